@@ -1,0 +1,6 @@
+pub mod Rows
+pub mod Written
+pub mod Taken
+pub mod Sound
+pub mod Complete
+pub mod Exact
