@@ -1,19 +1,26 @@
 use super::hex::bytes_of;
 use super::lines::cut;
 use faults::Fault;
+use lasso::Instant;
 use lasso::State;
+use log::Log;
+use log::LogSource;
 use record::read_record;
+use source::Source;
 use std::alloc::AllocError;
 use std::alloc::Global;
 use std::fmt;
 use trace::Trace;
 use words::HeldIn;
 use words::HeldInDisplay;
+use words::KnownAt;
+use words::KnownAtDisplay;
 
 // What is answered to a case.
 #[derive(Drop)]
 pub enum Answer {
-    Read(Trace),
+    Held(Trace),
+    Known(String),
     Refused(Fault),
     Unknown,
 }
@@ -23,6 +30,7 @@ impl Answer {
         let (kind, text) = cut(line, b' ');
         match kind {
             b"record" => to_record(text, heap),
+            b"log" => to_log(text, heap),
             _ => Ok(Answer::Unknown),
         }
     }
@@ -35,15 +43,47 @@ fn to_record(text: &[u8], heap: Global) -> Result<Answer, AllocError> {
     };
     let mut trace = Trace::fresh();
     match read_record(bytes.as_slice(), &mut trace) {
-        Ok(()) => Ok(Answer::Read(trace)),
+        Ok(()) => Ok(Answer::Held(trace)),
         Err(fault) => Ok(Answer::Refused(fault)),
     }
+}
+
+// The answer to a log in hexadecimal.
+fn to_log(text: &[u8], heap: Global) -> Result<Answer, AllocError> {
+    match bytes_of(text, heap)? {
+        Some(bytes) => to_log_bytes(bytes.as_slice(), heap),
+        None => Ok(Answer::Unknown),
+    }
+}
+
+// The line is made here, since an answer cannot borrow the bytes.
+fn to_log_bytes(bytes: &[u8], heap: Global) -> Result<Answer, AllocError> {
+    let mut log = Log::fresh();
+    match log.read(bytes) {
+        Ok(()) => Ok(Answer::Known(known_line(&log, heap)?)),
+        Err(fault) => Ok(Answer::Refused(fault)),
+    }
+}
+
+fn known_line(log: &Log<'_>, heap: Global) -> Result<String, AllocError> {
+    let (places, instants) = (log.places(), log.loop_start().0);
+    let mut line = format!(heap, "ok {places} {instants}")?;
+    for i in 0..instants {
+        let known = KnownAt {
+            source: log,
+            instant: Instant(i),
+        };
+        let part = format!(heap, " [{known}]")?;
+        line.push_str(part.as_str())?;
+    }
+    Ok(line)
 }
 
 pub impl fmt::Display for Answer as AnswerDisplay {
     fn fmt<W: fmt::Write>(&self, f: &mut fmt::Formatter<W>) -> fmt::Result {
         match self {
-            Answer::Read(trace) => show_trace(trace, f),
+            Answer::Held(trace) => show_trace(trace, f),
+            Answer::Known(line) => f.write_str(line.as_str()),
             Answer::Refused(fault) => write!(f, "refused {} at {}", fault.number(), fault.place()),
             Answer::Unknown => f.write_str("unknown"),
         }

@@ -1,4 +1,7 @@
-//! The worked examples of the formats, as tests.
+//! The worked examples of the formats and of the sources, as tests.
+#[cfg(test)]
+mod sources;
+
 #[cfg(test)]
 mod tests {
     use faults::Fault;

@@ -1,1 +1,2 @@
 pub mod Lassos
+pub mod Values

@@ -1,1 +1,4 @@
 pub mod Laws
+pub mod Lists
+pub mod ListsSound
+pub mod ListsComplete

@@ -18,12 +18,13 @@ use Rattle.trace.specs.Tables.{holds, NoneOutside}
 use Rattle.trace.specs.Traces.{IsTrace, SameFields}
 use Rattle.trace.proofs.One.{same-trace}
 use Rattle.numbers.specs.Numbers.{over, Bytes}
+use Rattle.numbers.proofs.ListsSound.{never, ok-inj}
 use Rattle.record.specs.declared.read.Lasso.{Lasso}
 use Rattle.record.specs.Records.{Said, helds, rowsOf, said, record-of, among, holdsBy}
 use Rattle.record.specs.Reading.{parse, ReadsAs, Accepted, NotFewest, Refused}
 use Rattle.record.specs.Lassos.{sayingOf, Fits}
 use Rattle.record.proofs.Rows.{helds-inj, among-helds}
-use Rattle.record.proofs.Sound.{never, ok-inj, sound}
+use Rattle.record.proofs.Sound.{sound}
 use Rattle.record.proofs.Complete.{complete}
 
 row-at : (k : ℕ) (held : List (List Bool)) (s : ℕ) → k ≤ length held → s < k → getD (rowsOf k held) s [] ≡ helds 0 (getD held s [])

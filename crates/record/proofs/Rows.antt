@@ -13,7 +13,10 @@ use Rattle.std.proofs.shelf.Tests.{eq-eqb, ne-eqb, false≢true}
 use Rattle.std.proofs.shelf.Ways.{tells}
 use Rattle.trace.specs.Tables.{Empty}
 use Rattle.numbers.specs.Numbers.{encode}
-use Rattle.record.specs.Records.{helds, state-bytes, among}
+use Rattle.numbers.specs.Lists.{list-bytes, Ascends}
+use Rattle.numbers.proofs.Lists.{ascends-low, ascends-high}
+use Rattle.record.specs.Writing.{state-of, front}
+use Rattle.record.specs.Records.{itself, helds, among}
 
 pub helds-append : (i : ℕ) (xs ys : List Bool) → helds i (xs ++ ys) ≡ helds i xs ++ helds (i + length xs) ys
 helds-append i [] ys = rw add-zero
@@ -58,14 +61,6 @@ module _ (row : List Bool) (p : ℕ) (h : p < length row) where
   pub helds-not : getD row p false ≡ false → helds 0 (take (p + 1) row) ≡ helds 0 (take p row)
   helds-not e = ap (helds 0) split ∙ helds-append 0 (take p row) _ ∙ ap (λ b. helds 0 (take p row) ++ helds (0 + length (take p row)) (b ∷ [])) e ∙ append-nil _
 
--- the bytes of a row's state
-abbrev pub state-of : List Bool → List ℕ
-state-of row = state-bytes (helds 0 row)
-
--- the bytes of a state, up to the place p
-abbrev pub front : List Bool → ℕ → List ℕ
-front row p = encode (length (helds 0 row)) ++ joined encode (helds 0 (take p row))
-
 module _ (row : List Bool) (p : ℕ) (h : p < length row) where
   pub front-held : getD row p false ≡ true → front row (p + 1) ≡ front row p ++ encode p
   front-held e =
@@ -99,26 +94,13 @@ pub state-bound : (row : List Bool) → length row ≤ 768 → length (state-of 
 state-bound row h =
     omega (arith, length-append (encode (length (helds 0 row))) (joined encode (helds 0 row)), length-encode (length (helds 0 row)), length-joined (helds 0 row), length-helds 0 row)
 
--- rs ascends from low on, below n
-abbrev pub Ascends : ℕ → ℕ → List ℕ → Type 0
-Ascends low n [] = Unit {0}
-Ascends low n (r ∷ rs) = (low ≤ r) × (r < n) × Ascends (r + 1) n rs
-
-pub ascends-low : (a b n : ℕ) (rs : List ℕ) → a ≤ b → Ascends b n rs → Ascends a n rs
-ascends-low a b n [] h s = tt
-ascends-low a b n (r ∷ rs) h s = (omega (arith, s .0), s .1, s .2)
-
-pub ascends-high : (a m n : ℕ) (rs : List ℕ) → m ≤ n → Ascends a m rs → Ascends a n rs
-ascends-high a m n [] h s = tt
-ascends-high a m n (r ∷ rs) h s = (s .0, omega (arith, s .1), ascends-high (r + 1) m n rs h (s .2))
-
-pub helds-ascend : (i : ℕ) (row : List Bool) → Ascends i (i + length row) (helds i row)
+pub helds-ascend : (i : ℕ) (row : List Bool) → Ascends itself i (i + length row) (helds i row)
 helds-ascend i [] = tt
-helds-ascend i (true ∷ row) = let e : (i + 1) + length row ≤ i + suc (length row) = omega arith in (omega arith, omega arith, ascends-high (i + 1) ((i + 1) + length row) (i + suc (length row)) (helds (i + 1) row) e (helds-ascend (i + 1) row))
-helds-ascend i (false ∷ row) = let e : (i + 1) + length row ≤ i + suc (length row) = omega arith in ascends-low i (i + 1) (i + suc (length row)) (helds (i + 1) row) (omega arith) (ascends-high (i + 1) ((i + 1) + length row) (i + suc (length row)) (helds (i + 1) row) e (helds-ascend (i + 1) row))
+helds-ascend i (true ∷ row) = let e : (i + 1) + length row ≤ i + suc (length row) = omega arith in (omega arith, omega arith, ascends-high itself (i + 1) ((i + 1) + length row) (i + suc (length row)) (helds (i + 1) row) e (helds-ascend (i + 1) row))
+helds-ascend i (false ∷ row) = let e : (i + 1) + length row ≤ i + suc (length row) = omega arith in ascends-low itself i (i + 1) (i + suc (length row)) (helds (i + 1) row) (omega arith) (ascends-high itself (i + 1) ((i + 1) + length row) (i + suc (length row)) (helds (i + 1) row) e (helds-ascend (i + 1) row))
 
-too-low : (i n : ℕ) (zs rs : List ℕ) → Ascends (i + 1) n rs → i ∷ zs ≡ rs → ⊥
-too-low i n zs rs a e = let b : Ascends (i + 1) n (i ∷ zs) = subst (Ascends (i + 1) n) (sym e) a in omega (arith, b .0)
+too-low : (i n : ℕ) (zs rs : List ℕ) → Ascends itself (i + 1) n rs → i ∷ zs ≡ rs → ⊥
+too-low i n zs rs a e = let b : Ascends itself (i + 1) n (i ∷ zs) = subst (Ascends itself (i + 1) n) (sym e) a in omega (arith, b .0)
 
 -- the held places tell rows of one length apart
 pub helds-inj : (i : ℕ) (xs ys : List Bool) → length xs ≡ length ys → helds i xs ≡ helds i ys → xs ≡ ys
@@ -131,7 +113,7 @@ helds-inj i (false ∷ xs) (true ∷ ys) l e = absurd (too-low i ((i + 1) + leng
 helds-inj i (false ∷ xs) (false ∷ ys) l e = ap (λ z. false ∷ z) (helds-inj (i + 1) xs ys (omega arith) e)
 
 -- a place below the row's beginning is not among them
-not-among : (p low n : ℕ) (rs : List ℕ) → p < low → Ascends low n rs → among p rs ≡ false
+not-among : (p low n : ℕ) (rs : List ℕ) → p < low → Ascends itself low n rs → among p rs ≡ false
 not-among p low n [] h a = refl
 not-among p low n (r ∷ rs) h a =
     ap (λ b. b || among p rs) (ne-eqb p r (λ e. omega (arith, a .0))) ∙ not-among p (r + 1) n rs (omega (arith, a .0)) (a .2)

@@ -1,21 +1,16 @@
 -- What the loops of the reader keep.
-use Prim.Native.Nat.{ℕ, zero, suc, _+_, _-_, _<_, _≤_}
+use Prim.Native.Nat.{ℕ, suc, _+_, _-_, _<_, _≤_}
 use native.Mathlib.Nat.{zero-add}
 use native.Mathlib.Omega.{arith}
-use mathlib.Core.Path.{_≡_, refl, sym, ap, _∙_}
+use mathlib.Core.Path.{_≡_, sym, ap, _∙_}
 use mathlib.Core.Bool.{Bool, true, false}
 use mathlib.Core.List.{List, [], _∷_, _++_, append-nil, map}
-use mathlib.Core.Logic.{_⊎_, inl, inr, ⊎-elim}
+use mathlib.Core.Logic.{inl, inr, ⊎-elim}
 use lib.ListN.{length, getD, set, drop, take, replicate, take-append-drop}
 use Rattle.std.proofs.shelf.Lists.{set-split, drop-drop, drop-replicate, drop-set-lt, length-set, length-take-le, take-more-set, map-push, getD-set-other, getD-set-same, take-replicate, getD-append-right, getD-past, getD-replicate, length-replicate}
 use Rattle.std.proofs.shelf.Tests.{cases-eq, cases-lt}
-use Rattle.std.specs.declared.result.Result.the-variants.{Ok, Err}
-use Rattle.faults.specs.declared.Fault.{Fault}
 use Rattle.trace.specs.Tables.{holds, BlankFrom, NoneOutside}
-use Rattle.numbers.specs.declared.read.Number.{Number}
-use Rattle.numbers.specs.Numbers.{andThen, within}
 use Rattle.record.specs.Records.{helds, rowsOf}
-use Rattle.record.specs.Reading.{Read, read, place, places, state, states}
 use Rattle.record.proofs.Rows.{helds-append, helds-blank}
 
 -- nothing is held from low on
@@ -39,39 +34,6 @@ helds-set row low p h k b =
     let rest : helds p (drop p row) ≡ [] = ap (helds p) (blank-on row low p h b) ∙ helds-blank p (length row - p) in
     let before : helds 0 row ≡ helds 0 (take p row) = ap (helds 0) (sym (take-append-drop p row)) ∙ helds-append 0 (take p row) (drop p row) ∙ ap (λ m. helds 0 (take p row) ++ helds m (drop p row)) n ∙ ap (λ z. helds 0 (take p row) ++ z) rest ∙ append-nil (helds 0 (take p row)) in
     ap (helds 0) (set-split row p true k) ∙ helds-append 0 (take p row) (true ∷ drop (suc p) row) ∙ ap (λ m. helds 0 (take p row) ++ helds m (true ∷ drop (suc p) row)) n ∙ ap (λ z. helds 0 (take p row) ++ p ∷ z) tail ∙ ap (λ z. z ++ p ∷ []) (sym before)
-
-module _ (bs : List ℕ) (n : ℕ) where
-  pub places-got : (left low at : ℕ) (ps : List ℕ) (v : Number) → 0 < left → place bs at low n ≡ Ok v → places bs n left low at ps ≡ places bs n (left - 1) (v .value + 1) (v .next) (ps ++ v .value ∷ [])
-  places-got zero low at ps v h e = absurd (omega arith)
-  places-got (suc c) low at ps v h e =
-      let back : c ≡ suc c - 1 = omega arith in
-      ap (λ r. andThen r (λ v. places bs n c (v .value + 1) (v .next) (ps ++ v .value ∷ []))) e
-      ∙ ap (λ m. places bs n m (v .value + 1) (v .next) (ps ++ v .value ∷ [])) back
-
-  pub places-err : (left low at : ℕ) (ps : List ℕ) (f : Fault) → 0 < left → place bs at low n ≡ Err f → places bs n left low at ps ≡ Err f
-  places-err zero low at ps f h e = absurd (omega arith)
-  places-err (suc c) low at ps f h e = ap (λ r. andThen r (λ v. places bs n c (v .value + 1) (v .next) (ps ++ v .value ∷ []))) e
-
-  pub places-done : (left low at : ℕ) (ps : List ℕ) → left ≡ 0 → places bs n left low at ps ≡ Ok (read ps at)
-  places-done zero low at ps e = refl
-  places-done (suc c) low at ps e = absurd (omega arith)
-
-  pub state-got : (at : ℕ) (v : Number) → within bs at 0 n ≡ Ok v → state bs n at ≡ places bs n (v .value) 0 (v .next) []
-  state-got at v e = ap (λ r. andThen r (λ v. places bs n (v .value) 0 (v .next) [])) e
-
-  pub states-got : (k at : ℕ) (rows : List (List ℕ)) (ps : List ℕ) (next : ℕ) → 0 < k → state bs n at ≡ Ok (read ps next) → states bs n k at rows ≡ states bs n (k - 1) next (rows ++ ps ∷ [])
-  states-got zero at rows ps next h e = absurd (omega arith)
-  states-got (suc k) at rows ps next h e =
-      let back : k ≡ suc k - 1 = omega arith in
-      ap (λ r. andThen r (λ v. states bs n k (v .next) (rows ++ v .got ∷ []))) e ∙ ap (λ m. states bs n m next (rows ++ ps ∷ [])) back
-
-  pub states-err : (k at : ℕ) (rows : List (List ℕ)) (f : Fault) → 0 < k → state bs n at ≡ Err f → states bs n k at rows ≡ Err f
-  states-err zero at rows f h e = absurd (omega arith)
-  states-err (suc k) at rows f h e = ap (λ r. andThen r (λ v. states bs n k (v .next) (rows ++ v .got ∷ []))) e
-
-  pub states-done : (k at : ℕ) (rows : List (List ℕ)) → k ≡ 0 → states bs n k at rows ≡ Ok (read rows at)
-  states-done zero at rows e = refl
-  states-done (suc k) at rows e = absurd (omega arith)
 
 none-in : (m p : ℕ) → getD (replicate m false) p false ≡ false
 none-in m p = ⊎-elim (λ lo. getD-replicate m p false false lo) (λ hi. getD-past (replicate m false) p false (omega (arith, length-replicate m false))) (cases-lt p m)

@@ -9,9 +9,11 @@ use borrow.Rule.Slice.PartMut.{putMid}
 use Rattle.std.specs.Joined.{joined}
 use Rattle.std.proofs.shelf.Lists.{drop-all, drop-drop, take-at, drop-at, take-all, take-take, take-more}
 use Rattle.numbers.specs.Numbers.{encode, over}
+use Rattle.numbers.specs.Lists.{list-bytes}
 use Rattle.trace.specs.declared.trace.Trace.{Trace}
-use Rattle.record.specs.Records.{helds, rowsOf, state-bytes, header, said, record-of}
-use Rattle.record.proofs.Rows.{joined-append, state-of, state-bound, length-encode}
+use Rattle.record.specs.Records.{helds, rowsOf, header, said, record-of}
+use Rattle.record.specs.Writing.{state-of, So-far}
+use Rattle.record.proofs.Rows.{joined-append, state-bound, length-encode}
 
 past : (xs ys old : List ℕ) → drop (length ys) (drop (length xs) old) ≡ drop (length (xs ++ ys)) old
 past xs ys old = drop-drop (length ys) (length xs) old ∙ ap (λ n. drop n old) (sym (length-append xs ys))
@@ -31,11 +33,6 @@ over-then xs ys old buf last at k b a e l =
     let g : last ≡ ys ++ drop (length (xs ++ ys)) old = l ∙ ap (over ys) (f ∙ d) ∙ ap (λ z. ys ++ z) (past xs ys old) in
     ap (λ z. z ++ (last ++ drop k (drop at buf))) t ∙ ap (λ z. xs ++ (last ++ z)) n ∙ ap (λ z. xs ++ z) (append-nil last ∙ g) ∙ sym (append-assoc xs ys (drop (length (xs ++ ys)) old))
 
--- xs stands at the start of what was old, and ends at `at`
-pub record So-far (xs old buf : List ℕ) (at : ℕ) : Type 0 where
-  pub bytes : buf ≡ over xs old
-  pub end : at ≡ length xs
-
 pub so-far-then : {xs old buf : List ℕ} {at : ℕ} (ys last : List ℕ) (k r : ℕ) → So-far xs old buf at → k ≡ length buf - at → last ≡ over ys (take k (drop at buf)) → r ≡ length ys
     → So-far (xs ++ ys) old (putMid at k buf last) (at + r)
 so-far-then {xs} {old} {buf} {at} ys last k r w e l f = record {
@@ -48,21 +45,21 @@ so-far-as {xs} {old} {buf} {at} ys w e = record { bytes = w .bytes ∙ ap (λ z.
 
 -- the bytes of the first s states
 abbrev pub part : List (List Bool) → ℕ → List ℕ
-part held s = joined state-bytes (rowsOf s held)
+part held s = joined list-bytes (rowsOf s held)
 
-part-append : (xs ys : List (List Bool)) → joined state-bytes (map (helds 0) (xs ++ ys)) ≡ joined state-bytes (map (helds 0) xs) ++ joined state-bytes (map (helds 0) ys)
-part-append xs ys = ap (joined state-bytes) (map-append (helds 0) xs ys) ∙ joined-append state-bytes (map (helds 0) xs) (map (helds 0) ys)
+part-append : (xs ys : List (List Bool)) → joined list-bytes (map (helds 0) (xs ++ ys)) ≡ joined list-bytes (map (helds 0) xs) ++ joined list-bytes (map (helds 0) ys)
+part-append xs ys = ap (joined list-bytes) (map-append (helds 0) xs ys) ∙ joined-append list-bytes (map (helds 0) xs) (map (helds 0) ys)
 
 pub part-more : (held : List (List Bool)) (s : ℕ) → s < length held → part held (s + 1) ≡ part held s ++ state-of (getD held s [])
 part-more held s h =
-    ap (λ rows. joined state-bytes (map (helds 0) rows)) (take-more held s [] h) ∙ part-append (take s held) (getD held s [] ∷ []) ∙ ap (λ z. part held s ++ z) (append-nil (state-of (getD held s [])))
+    ap (λ rows. joined list-bytes (map (helds 0) rows)) (take-more held s [] h) ∙ part-append (take s held) (getD held s [] ∷ []) ∙ ap (λ z. part held s ++ z) (append-nil (state-of (getD held s [])))
 
 pub part-le : (held : List (List Bool)) (s k : ℕ) → s ≤ k → length (part held s) ≤ length (part held k)
 part-le held s k h =
     let rows = take k held in
     let e : take k held ≡ take s held ++ drop s rows = sym (take-append-drop s rows) ∙ ap (λ z. z ++ drop s rows) (take-take s k held h) in
-    let f : part held k ≡ part held s ++ joined state-bytes (map (helds 0) (drop s rows)) = ap (λ z. joined state-bytes (map (helds 0) z)) e ∙ part-append (take s held) (drop s rows) in
-    omega (arith, ap length f, length-append (part held s) (joined state-bytes (map (helds 0) (drop s rows))))
+    let f : part held k ≡ part held s ++ joined list-bytes (map (helds 0) (drop s rows)) = ap (λ z. joined list-bytes (map (helds 0) z)) e ∙ part-append (take s held) (drop s rows) in
+    omega (arith, ap length f, length-append (part held s) (joined list-bytes (map (helds 0) (drop s rows))))
 
 -- s rows of 768 places have at most so many bytes
 pub part-bound : (held : List (List Bool)) (s : ℕ) → s ≤ length held → ((j : ℕ) → j < s → length (getD held j []) ≤ 768) → length (part held s) ≤ 2307 * s

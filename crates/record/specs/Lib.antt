@@ -1,3 +1,4 @@
 pub mod Records
 pub mod Reading
 pub mod Lassos
+pub mod Writing

@@ -1,51 +1,24 @@
 -- How bytes are read as a record: what it says, or the first fault. Assumes nothing.
-use Prim.Native.Nat.{ℕ, zero, suc, _+_, _-_, _<_, _≤_}
+use Prim.Native.Nat.{ℕ, _<_}
 use mathlib.Core.Path.{_≡_}
-use mathlib.Core.Bool.{cond, _&&_}
-use mathlib.Core.List.{List, [], _∷_, _++_}
+use mathlib.Core.Bool.{cond}
+use mathlib.Core.List.{List, []}
 use mathlib.Core.Logic.{_⊎_}
 use lib.ListN.{length, take}
-use lib.Dec.{ltb, leb}
+use lib.Dec.{ltb}
 use Rattle.std.specs.declared.result.Result.{Result}
 use Rattle.std.specs.declared.result.Result.the-variants.{Ok, Err}
 use Rattle.faults.specs.declared.Fault.{Fault}
-use Rattle.faults.specs.declared.Fault.the-variants.{OutsideLimits, PlaceOutOfOrder, BytesLeftOver, FewerStatesWouldDo, TooManyBytes, BufferTooShort}
+use Rattle.faults.specs.declared.Fault.the-variants.{OutsideLimits, BytesLeftOver, FewerStatesWouldDo, TooManyBytes, BufferTooShort}
 use Rattle.lasso.specs.Lassos.{Fewest}
 use Rattle.trace.specs.declared.trace.Trace.{Trace}
 use Rattle.trace.specs.Tables.{most-places, most-states}
-use Rattle.numbers.specs.declared.read.Number.{Number}
 use Rattle.numbers.specs.Numbers.{andThen, readAt, within, edition, over, Bytes}
-use Rattle.record.specs.Records.{Said, said, record-of, holdsBy}
+use Rattle.numbers.specs.Lists.{Read, lists}
+use Rattle.record.specs.Records.{itself, Said, said, record-of, holdsBy}
 
 abbrev pub most-bytes : ℕ
 most-bytes = 32768
-
--- something that was read, and the byte after it
-pub record Read (X : Type 0) : Type 0 where
-  pub got : X
-  pub next : ℕ
-
-abbrev pub read : {X : Type 0} → X → ℕ → Read X
-read x at = record { got = x; next = at }
-
--- a place from `low` on and below n
-abbrev pub place : List ℕ → ℕ → ℕ → ℕ → Result Number Fault
-place bs at low n = andThen (readAt bs at) (λ v. cond (leb low (v .value) && ltb (v .value) n) (Ok v) (Err (PlaceOutOfOrder at)))
-
--- c places, each from `low` on and below n, after those in ps
-abbrev pub places : List ℕ → ℕ → ℕ → ℕ → ℕ → List ℕ → Result (Read (List ℕ)) Fault
-places bs n zero low at ps = Ok (read ps at)
-places bs n (suc c) low at ps =
-    andThen (place bs at low n) (λ v. places bs n c (v .value + 1) (v .next) (ps ++ v .value ∷ []))
-
--- a state: how many places it holds, at most all n, and these
-abbrev pub state : List ℕ → ℕ → ℕ → Result (Read (List ℕ)) Fault
-state bs n at = andThen (within bs at 0 n) (λ v. places bs n (v .value) 0 (v .next) [])
-
--- k states, after those in rows
-abbrev pub states : List ℕ → ℕ → ℕ → ℕ → List (List ℕ) → Result (Read (List (List ℕ))) Fault
-states bs n zero at rows = Ok (read rows at)
-states bs n (suc k) at rows = andThen (state bs n at) (λ v. states bs n k (v .next) (rows ++ v .got ∷ []))
 
 -- what comes before the states
 pub record Heading : Type 0 where
@@ -74,7 +47,7 @@ ended bs h v = cond (ltb (v .next) (length bs)) (Err (BytesLeftOver (v .next))) 
 abbrev pub parse : List ℕ → Result Said Fault
 parse bs =
     cond (ltb most-bytes (length bs)) (Err TooManyBytes)
-    (andThen (heading bs) (λ h. andThen (states bs (h .places) (h .states) (h .next) []) (λ v. ended bs h v)))
+    (andThen (heading bs) (λ h. andThen (lists itself bs (h .places) (h .states) (h .next) []) (λ v. ended bs h v)))
 
 -- bytes read as a trace, and as no other
 pub record ReadsAs (bs : List ℕ) (t : Trace) : Type 0 where

@@ -1,15 +1,17 @@
 -- A trace as a record, for src/write and src/read. Assumes nothing.
-use Prim.Native.Nat.{ℕ, _+_, _<_}
-use mathlib.Core.Path.{_≡_}
+use Prim.Native.Nat.{ℕ, _+_}
 use mathlib.Core.Bool.{Bool, cond, _||_, false}
 use mathlib.Core.List.{List, [], _∷_, _++_, map}
-use lib.ListN.{length, getD, take}
+use lib.ListN.{getD, take}
 use lib.Dec.{eqb}
 use Rattle.std.specs.Joined.{joined}
-use Rattle.faults.specs.declared.Fault.{Fault}
-use Rattle.faults.specs.declared.Fault.the-variants.{BufferTooShort}
 use Rattle.trace.specs.declared.trace.Trace.{Trace}
-use Rattle.numbers.specs.Numbers.{encode, over}
+use Rattle.numbers.specs.Numbers.{encode}
+use Rattle.numbers.specs.Lists.{list-bytes}
+
+-- the place of a number in a record: the number
+abbrev pub itself : ℕ → ℕ
+itself v = v
 
 -- the places that a row holds, ascending, where the row begins with the place i
 abbrev pub helds : ℕ → List Bool → List ℕ
@@ -38,11 +40,8 @@ header n k l = encode 1 ++ (encode n ++ (encode k ++ encode l))
 abbrev pub headerOf : Trace → List ℕ
 headerOf t = header (t .places) (t .shape .states) (t .shape .«loop_start»)
 
-abbrev pub state-bytes : List ℕ → List ℕ
-state-bytes ps = encode (length ps) ++ joined encode ps
-
 abbrev pub record-of : Said → List ℕ
-record-of d = header (d .places) (d .states) (d .start) ++ joined state-bytes (d .rows)
+record-of d = header (d .places) (d .states) (d .start) ++ joined list-bytes (d .rows)
 
 -- whether a place is among those of a state
 abbrev pub among : ℕ → List ℕ → Bool

@@ -7,8 +7,9 @@ ghost use Rattle.std.specs.Results.{Cases};
 ghost use Rattle.std.specs.Vec.{made};
 ghost use Rattle.std.specs.declared.result.Result.the-variants.{Ok, Err};
 ghost use Rattle.trace.specs.Tables.{BlankFrom, NoneOutside};
-ghost use Rattle.record.specs.Records.{helds, rowsOf};
-ghost use Rattle.record.specs.Reading.{read as readTo, place as placeAt, state as stateAt, states as statesAt, heading as headingOf, parse, Accepted, Refused};
+ghost use Rattle.numbers.specs.Lists.{read as readTo, entry as entryAt, list as listAt, lists as listsAt};
+ghost use Rattle.record.specs.Records.{itself, helds, rowsOf};
+ghost use Rattle.record.specs.Reading.{heading as headingOf, parse, Accepted, Refused};
 ghost use Rattle.record.specs.Lassos.{sayingOf, headingAs, Fits};
 use faults::Fault;
 use lasso::Shape;
@@ -105,7 +106,7 @@ fn read_states(bytes: &[u8], header: Header, held: &mut Table) -> Result<usize, 
     requires next { ⌜ header .next ≤ length (now bytes) ⌝ }
     requires blank { ⌜ BlankFrom 0 (now held) ⌝ }
     requires nothing { ⌜ NoneOutside 0 0 (now held) ⌝ }
-    ensures cases { λ r. ⌜ Cases r (λ next. statesAt (now (bytes .entry)) (header .places) (header .shape .states) (header .next) [] ≡ Ok (readTo (rowsOf (header .shape .states) (now (held .exit))) next)) (λ f. statesAt (now (bytes .entry)) (header .places) (header .shape .states) (header .next) [] ≡ Err f) ⌝ }
+    ensures cases { λ r. ⌜ Cases r (λ next. listsAt itself (now (bytes .entry)) (header .places) (header .shape .states) (header .next) [] ≡ Ok (readTo (rowsOf (header .shape .states) (now (held .exit))) next)) (λ f. listsAt itself (now (bytes .entry)) (header .places) (header .shape .states) (header .next) [] ≡ Err f) ⌝ }
     ensures inside { λ r. ⌜ made r (λ _. NoneOutside (header .places) (header .shape .states) (now (held .exit))) ⌝ }
 {
     let places = header.places;
@@ -120,7 +121,7 @@ fn read_states(bytes: &[u8], header: Header, held: &mut Table) -> Result<usize, 
 fn read_state(bytes: &[u8], from: usize, row: &mut [bool]) -> Result<usize, Fault>
     requires from { ⌜ from ≤ length (now bytes) ⌝ }
     requires blank { ⌜ now row ≡ replicate (length (now row)) false ⌝ }
-    ensures cases { λ r. ⌜ Cases r (λ next. stateAt (now (bytes .entry)) (length (now (row .entry))) from ≡ Ok (readTo (helds 0 (now (row .exit))) next)) (λ f. stateAt (now (bytes .entry)) (length (now (row .entry))) from ≡ Err f) ⌝ }
+    ensures cases { λ r. ⌜ Cases r (λ next. listAt itself (now (bytes .entry)) (length (now (row .entry))) from ≡ Ok (readTo (helds 0 (now (row .exit))) next)) (λ f. listAt itself (now (bytes .entry)) (length (now (row .entry))) from ≡ Err f) ⌝ }
     ensures inside { λ r. ⌜ made r (λ next. next ≤ length (now (bytes .entry))) ⌝ }
 {
     let places = row.len();
@@ -138,7 +139,7 @@ fn read_state(bytes: &[u8], from: usize, row: &mut [bool]) -> Result<usize, Faul
 
 // Reads a place that lies above the ones before it and below the place count.
 fn read_place(bytes: &[u8], at: usize, low: usize, places: usize) -> Result<Number, Fault>
-    ensures value { λ r. ⌜ r ≡ placeAt (now (bytes .entry)) at low places ⌝ }
+    ensures value { λ r. ⌜ r ≡ entryAt itself (now (bytes .entry)) at low places ⌝ }
     ensures inside { λ r. ⌜ made r (λ n. (low ≤ n .value) × (n .value < places) × (n .next ≤ length (now (bytes .entry)))) ⌝ }
 {
     let place = read_number(bytes, at)?;

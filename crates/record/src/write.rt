@@ -1,10 +1,12 @@
 ghost use mathlib.Core.Path.{_≡_};
-ghost use Prim.Native.Nat.{ℕ, _<_, _≤_};
+ghost use Prim.Native.Nat.{ℕ, _+_, _<_, _≤_};
 ghost use lib.ListN.{length};
 ghost use Rattle.std.specs.Results.{Cases};
 ghost use Rattle.numbers.specs.Numbers.{encode, over};
-ghost use Rattle.record.specs.Records.{helds, said, headerOf, state-bytes, record-of};
+ghost use Rattle.numbers.specs.Lists.{list-bytes};
+ghost use Rattle.record.specs.Records.{helds, said, headerOf, record-of};
 ghost use Rattle.record.specs.Reading.{Wrote, NoRoom};
+ghost use Rattle.record.specs.Writing.{state-of, front, Goes};
 use faults::Fault;
 use numbers::number_len;
 use numbers::write_number;
@@ -54,17 +56,41 @@ fn put_header(trace: &Trace, buffer: &mut [u8]) -> usize
 // Writes one state, into what is left of the buffer: how many places it holds, and these.
 fn put_state(row: &[bool], buffer: &mut [u8]) -> usize
     requires small { ⌜ length (now row) ≤ 768 ⌝ }
-    requires room { ⌜ length (state-bytes (helds 0 (now row))) ≤ length (now buffer) ⌝ }
-    ensures len { λ r. ⌜ r ≡ length (state-bytes (helds 0 (now (row .entry)))) ⌝ }
-    ensures after { λ _. ⌜ now (buffer .exit) ≡ over (state-bytes (helds 0 (now (row .entry)))) (now (buffer .entry)) ⌝ }
+    requires room { ⌜ length (list-bytes (helds 0 (now row))) ≤ length (now buffer) ⌝ }
+    ensures len { λ r. ⌜ r ≡ length (list-bytes (helds 0 (now (row .entry)))) ⌝ }
+    ensures after { λ _. ⌜ now (buffer .exit) ≡ over (list-bytes (helds 0 (now (row .entry)))) (now (buffer .entry)) ⌝ }
 {
-    let mut at = put_number(count(row) as u16, buffer);
+    let at = put_number(count(row) as u16, buffer);
+    put_places(row, at, buffer)
+}
+
+// Writes the held places of a state behind their count.
+fn put_places(row: &[bool], start: usize, buffer: &mut [u8]) -> usize
+    requires small { ⌜ length (now row) ≤ 768 ⌝ }
+    requires room { ⌜ length (state-of (now row)) ≤ length (now buffer) ⌝ }
+    requires start { ⌜ start ≡ length (front (now row) 0) ⌝ }
+    ensures { λ r. ⌜ Goes (front (now (row .entry)) 0) (now (buffer .entry)) start (front (now (row .entry)) (length (now (row .entry)))) (now (buffer .exit)) r ⌝ }
+{
+    let mut at = start;
     for place in 0..row.len() {
-        if row[place] {
-            at += put_number(place as u16, &mut buffer[at..]);
-        }
+        at = put_place(row, place, at, buffer);
     }
     at
+}
+
+// Writes a place if it is held: the index of the byte after what is written so far.
+fn put_place(row: &[bool], place: usize, at: usize, buffer: &mut [u8]) -> usize
+    requires small { ⌜ length (now row) ≤ 768 ⌝ }
+    requires room { ⌜ length (state-of (now row)) ≤ length (now buffer) ⌝ }
+    requires place { ⌜ place < length (now row) ⌝ }
+    requires at { ⌜ at ≡ length (front (now row) place) ⌝ }
+    ensures end { λ r. ⌜ r ≡ length (front (now (row .entry)) (place + 1)) ⌝ }
+    ensures goes { λ r. ⌜ Goes (front (now (row .entry)) place) (now (buffer .entry)) at (front (now (row .entry)) (place + 1)) (now (buffer .exit)) r ⌝ }
+{
+    if !row[place] {
+        return at;
+    }
+    at + put_number(place as u16, &mut buffer[at..])
 }
 
 // Writes a number where there is room for it.
@@ -103,7 +129,7 @@ fn header_len(trace: &Trace) -> usize
 // How many bytes a state has.
 fn state_len(row: &[bool]) -> usize
     requires { ⌜ length (now row) ≤ 768 ⌝ }
-    ensures { λ r. ⌜ r ≡ length (state-bytes (helds 0 (now (row .entry)))) ⌝ }
+    ensures { λ r. ⌜ r ≡ length (list-bytes (helds 0 (now (row .entry)))) ⌝ }
 {
     let mut len = number_len(count(row) as u16);
     for p in 0..row.len() {

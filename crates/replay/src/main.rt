@@ -1,12 +1,12 @@
 //! Reads a record from standard input and says in words what it holds, or why it is refused.
-use faults::Fault;
-use faults::FaultDisplay;
 use record::read_record;
 use std::error::AnyError;
 use std::io::Read;
 use trace::Trace;
 use words::InWords;
 use words::InWordsDisplay;
+use words::Refusal;
+use words::RefusalDisplay;
 
 fn main(rt: LibcRuntime) -> Result<(), AnyError> {
     let mut bytes = Vec::new(rt.alloc());
@@ -18,13 +18,9 @@ fn main(rt: LibcRuntime) -> Result<(), AnyError> {
             println!(rt, "a record of {count} bytes: {shown}")?;
             Ok(())
         }
-        Err(fault) => refuse(&rt, fault),
+        Err(fault) => {
+            rt.println(Refusal { fault })?;
+            Err("refused".into())
+        }
     }
-}
-
-// Says what is refused and why, and ends the program with an error.
-fn refuse(rt: &LibcRuntime, fault: Fault) -> Result<(), AnyError> {
-    let (number, place) = (fault.number(), fault.place());
-    println!(rt, "refused {number} at {place}: {fault}")?;
-    Err("refused".into())
 }

@@ -1,82 +1,26 @@
-//! Traces in words: what programs print of them.
-use lasso::State;
-use std::fmt;
-use trace::Trace;
+//! Traces, sources and refusals in words: what programs print of them.
+ghost use mathlib.Core.Path.{_≡_};
+ghost use mathlib.Core.Bool.{cond};
+ghost use lib.Dec.{eqb};
 
-// The places that are held in a state, with commas between them.
-#[derive(Drop)]
-pub struct HeldIn<'a> {
-    pub trace: &'a Trace,
-    pub state: State,
-}
+mod held;
+mod known;
+mod refusal;
 
-pub impl fmt::Display for HeldIn<'_> as HeldInDisplay {
-    fn fmt<W: fmt::Write>(&self, f: &mut fmt::Formatter<W>) -> fmt::Result {
-        let mut first = true;
-        for place in 0..self.trace.places() {
-            if self.trace.held(place, self.state) {
-                if !first {
-                    f.write_str(",")?;
-                }
-                write!(f, "{place}")?;
-                first = false;
-            }
-        }
-        Ok(())
-    }
-}
-
-// A trace in words: its counts, a line for each state, and where the loop goes back.
-#[derive(Drop)]
-pub struct InWords<'a> {
-    pub trace: &'a Trace,
-}
-
-pub impl fmt::Display for InWords<'_> as InWordsDisplay {
-    fn fmt<W: fmt::Write>(&self, f: &mut fmt::Formatter<W>) -> fmt::Result {
-        let (places, states) = (self.trace.places(), self.trace.states());
-        let (place_noun, state_noun) = (
-            noun(places, "place", "places"),
-            noun(states, "state", "states"),
-        );
-        writeln!(
-            f,
-            "a trace of {places} {place_noun} and {states} {state_noun}"
-        )?;
-        for s in 0..states {
-            state_in_words(self.trace, State(s), f)?;
-        }
-        let (last, start) = (states - 1, self.trace.loop_start().0);
-        write!(
-            f,
-            "after state {last} it goes back to state {start}, and so on for ever"
-        )
-    }
-}
-
-fn state_in_words<W: fmt::Write>(
-    trace: &Trace,
-    state: State,
-    f: &mut fmt::Formatter<W>,
-) -> fmt::Result {
-    let s = state.0;
-    if holds_nothing(trace, state) {
-        return writeln!(f, "state {s}: nothing is held");
-    }
-    let held = HeldIn { trace, state };
-    writeln!(f, "state {s}: held {held}")
-}
-
-fn holds_nothing(trace: &Trace, state: State) -> bool {
-    for place in 0..trace.places() {
-        if trace.held(place, state) {
-            return false;
-        }
-    }
-    true
-}
+pub use held::HeldIn;
+pub use held::HeldInDisplay;
+pub use held::InWords;
+pub use held::InWordsDisplay;
+pub use known::ChangedAt;
+pub use known::ChangedAtDisplay;
+pub use known::KnownAt;
+pub use known::KnownAtDisplay;
+pub use refusal::Refusal;
+pub use refusal::RefusalDisplay;
 
 // The word for one of a kind, or for none or several.
-fn noun(count: usize, one: &'static str, several: &'static str) -> &'static str {
+pub fn noun(count: usize, one: &'static str, several: &'static str) -> &'static str
+    ensures { λ r. ⌜ now r ≡ cond (eqb count 1) (now (one .entry)) (now (several .entry)) ⌝ }
+{
     if count == 1 { one } else { several }
 }

@@ -5,10 +5,11 @@ use mathlib.Core.Bool.{false}
 use mathlib.Core.List.{[], _∷_, _++_}
 use lib.ListN.{length, replicate}
 use Rattle.std.proofs.shelf.Results.{err-from-errBy}
-use Rattle.record.specs.Records.{helds}
-use Rattle.record.specs.Reading.{places, state}
+use Rattle.numbers.specs.Lists.{entries}
+use Rattle.numbers.proofs.Lists.{entries-got, entries-err, entries-done, list-got}
+use Rattle.record.specs.Records.{itself, helds}
 use Rattle.record.proofs.Rows.{helds-blank}
-use Rattle.record.proofs.Taken.{Blank, blank-set, helds-set, places-got, places-err, places-done, state-got}
+use Rattle.record.proofs.Taken.{Blank, blank-set, helds-set}
 use Rattle.record.proofs.read.read_state.Needs as need
 
 pub loop-done-holds : need.loop-done-holds
@@ -18,7 +19,7 @@ loop-done-holds c =
     let v = c .in-Continue-counted .counted in
     let d : v .value - 0 ≡ v .value = omega arith in
     let e : length row ≡ length row - 0 = omega arith in (
-      ap (λ m. places bs (length row) m 0 (v .next) (helds 0 row)) d ∙ ap (places bs (length row) (v .value) 0 (v .next)) (ap (helds 0) (c .pre .blank) ∙ helds-blank 0 (length row)),
+      ap (λ m. entries itself bs (length row) m 0 (v .next) (helds 0 row)) d ∙ ap (entries itself bs (length row) (v .value) 0 (v .next)) (ap (helds 0) (c .pre .blank) ∙ helds-blank 0 (length row)),
       c .pre .blank ∙ ap (λ n. replicate n false) e,
       c .in-Continue-counted .ensures tt .inside .3,
     )
@@ -30,8 +31,8 @@ returns-in-Break-place c =
     let n = length (c .args .row .now) in
     let v = c .in-Continue-counted .counted in
     let e = c .in-Break-place .ensures tt .value in
-    let s = state-got bs n (c .args .from) v (sym (c .in-Continue-counted .ensures tt .value)) in
-    let t = places-err bs n (v .value - c .loop-done .-done) (c .loop-done .low) (c .loop-done .at) (helds 0 (c .loop-done .row)) _ (omega arith) (sym e) in
+    let s = list-got itself bs n (c .args .from) v (sym (c .in-Continue-counted .ensures tt .value)) in
+    let t = entries-err itself bs n (v .value - c .loop-done .-done) (c .loop-done .low) (c .loop-done .at) (helds 0 (c .loop-done .row)) _ (omega arith) (sym e) in
     rw (p .1, p .2) (record { cases = s ∙ sym (c .loop-done .inv .0) ∙ t; inside = tt })
 
 pub loop-done-again : need.loop-done-again
@@ -45,9 +46,9 @@ loop-done-again c =
     let b = c .in-Continue-place .ensures tt .inside in
     let high : p .value < length row = omega (arith, b .1) in
     let less : v .value - c .loop-done .-done - 1 ≡ v .value - (c .loop-done .-done + 1) = omega arith in
-    let got = places-got bs n (v .value - c .loop-done .-done) (c .loop-done .low) (c .loop-done .at) (helds 0 row) p (omega arith) (sym (c .in-Continue-place .ensures tt .value)) in (
-      ap (places bs n (v .value - (c .loop-done .-done + 1)) (p .value + 1) (p .next)) (helds-set row (c .loop-done .low) (p .value) (b .0) high (i .1))
-          ∙ ap (λ m. places bs n m (p .value + 1) (p .next) (helds 0 row ++ p .value ∷ [])) (sym less) ∙ sym got ∙ i .0,
+    let got = entries-got itself bs n (v .value - c .loop-done .-done) (c .loop-done .low) (c .loop-done .at) (helds 0 row) p (omega arith) (sym (c .in-Continue-place .ensures tt .value)) in (
+      ap (entries itself bs n (v .value - (c .loop-done .-done + 1)) (p .value + 1) (p .next)) (helds-set row (c .loop-done .low) (p .value) (b .0) high (i .1))
+          ∙ ap (λ m. entries itself bs n m (p .value + 1) (p .next) (helds 0 row ++ p .value ∷ [])) (sym less) ∙ sym got ∙ i .0,
       blank-set row (c .loop-done .low) (p .value) (b .0) (i .1),
       b .2,
     )
@@ -59,6 +60,6 @@ returns c =
     let v = c .in-Continue-counted .counted in
     let none : v .value - c .loop-done .-done ≡ 0 = omega arith in
     record {
-      cases = state-got bs n (c .args .from) v (sym (c .in-Continue-counted .ensures tt .value)) ∙ sym (c .loop-done .inv .0) ∙ places-done bs n _ (c .loop-done .low) (c .loop-done .at) (helds 0 (c .loop-done .row)) none;
+      cases = list-got itself bs n (c .args .from) v (sym (c .in-Continue-counted .ensures tt .value)) ∙ sym (c .loop-done .inv .0) ∙ entries-done itself bs n _ (c .loop-done .low) (c .loop-done .at) (helds 0 (c .loop-done .row)) none;
       inside = c .loop-done .inv .2;
     }

@@ -7,9 +7,10 @@ use lib.ListN.{length, getD, take, drop, replicate, length-replicate}
 use Rattle.std.proofs.shelf.Lists.{length-set, drop-replicate}
 use Rattle.std.proofs.shelf.Results.{err-from-errBy}
 use Rattle.trace.specs.Tables.{BlankFrom}
-use Rattle.record.specs.Records.{helds, rowsOf}
-use Rattle.record.specs.Reading.{states, state}
-use Rattle.record.proofs.Taken.{states-got, states-err, states-done, rows-set, blank-past, none-past, blank-row}
+use Rattle.numbers.specs.Lists.{list, lists}
+use Rattle.numbers.proofs.Lists.{lists-got, lists-err}
+use Rattle.record.specs.Records.{itself, helds, rowsOf}
+use Rattle.record.proofs.Taken.{rows-set, blank-past, none-past, blank-row}
 use Rattle.record.proofs.read.read_states.Needs as need
 
 wide : (held : List (List Bool)) (s n : ℕ) → BlankFrom s held → s < 8 → n ≤ 768 → take (n - 0) (getD held s []) ≡ replicate n false
@@ -28,9 +29,9 @@ returns-in-Break-at c =
     let n = c .args .header .places in
     let k = c .states-s-end .result in
     let w = wide (c .loop-s .held) (c .loop-s .s) n (c .loop-s .inv .1) (omega arith) (omega arith) in
-    let e : state bs n (c .loop-s .at) ≡ _ = ap (λ k. state bs k (c .loop-s .at)) (sym (ap length w ∙ length-replicate n false)) ∙ c .in-Break-at .ensures tt .cases in
-    let all = ap (λ m. states bs n m (c .args .header .next) []) (sym (c .states-s-end .ensures .value)) in
-    rw (p .1, p .2) (record { cases = all ∙ sym (c .loop-s .inv .0) ∙ states-err bs n (k - c .loop-s .s) (c .loop-s .at) _ _ (omega arith) e; inside = tt })
+    let e : list itself bs n (c .loop-s .at) ≡ _ = ap (λ k. list itself bs k (c .loop-s .at)) (sym (ap length w ∙ length-replicate n false)) ∙ c .in-Break-at .ensures tt .cases in
+    let all = ap (λ m. lists itself bs n m (c .args .header .next) []) (sym (c .states-s-end .ensures .value)) in
+    rw (p .1, p .2) (record { cases = all ∙ sym (c .loop-s .inv .0) ∙ lists-err itself bs n (k - c .loop-s .s) (c .loop-s .at) _ _ (omega arith) e; inside = tt })
 
 pub loop-s-again : need.loop-s-again
 loop-s-again c =
@@ -45,12 +46,12 @@ loop-s-again c =
     let len : length (take (n - 0) (getD held s [])) ≡ n = ap length w ∙ length-replicate n false in
     let whole : length last ≡ n = c .read-state .kept .row ∙ len in
     let blank : z ≡ replicate (768 - (n - 0)) false = ap (drop (n - 0)) (c .loop-s .inv .1 s (omega arith) (omega arith)) ∙ drop-replicate (n - 0) 768 false in
-    let e = ap (λ m. state bs m (c .loop-s .at)) (sym len) ∙ c .in-Continue-at .ensures tt .cases in
+    let e = ap (λ m. list itself bs m (c .loop-s .at)) (sym len) ∙ c .in-Continue-at .ensures tt .cases in
     let less : k - s - 1 ≡ k - (s + 1) = omega arith in
     let here : s < length held = omega arith in (
-      ap (states bs n (k - (s + 1)) (c .in-Continue-at .at)) (rows-set held s n last z here whole (768 - (n - 0)) blank)
-          ∙ ap (λ m. states bs n m (c .in-Continue-at .at) (rowsOf s held ++ helds 0 last ∷ [])) (sym less)
-          ∙ sym (states-got bs n (k - s) (c .loop-s .at) (rowsOf s held) (helds 0 last) (c .in-Continue-at .at) (omega arith) e)
+      ap (lists itself bs n (k - (s + 1)) (c .in-Continue-at .at)) (rows-set held s n last z here whole (768 - (n - 0)) blank)
+          ∙ ap (λ m. lists itself bs n m (c .in-Continue-at .at) (rowsOf s held ++ helds 0 last ∷ [])) (sym less)
+          ∙ sym (lists-got itself bs n (k - s) (c .loop-s .at) (rowsOf s held) (helds 0 last) (c .in-Continue-at .at) (omega arith) e)
           ∙ c .loop-s .inv .0,
       blank-past held s n last z here whole (c .loop-s .inv .1),
       none-past held s n last z here whole (768 - (n - 0)) blank (c .loop-s .inv .2),

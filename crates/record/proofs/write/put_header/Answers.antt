@@ -2,7 +2,8 @@ use mathlib.Core.Path.{_≡_, refl, ap, _∙_}
 use mathlib.Core.List.{_++_, append-assoc}
 use Rattle.numbers.specs.Numbers.{encode}
 use Rattle.record.specs.Records.{header, headerOf}
-use Rattle.record.proofs.Written.{So-far, so-far-then, so-far-as}
+use Rattle.record.proofs.Written.{so-far-then, so-far-as}
+use Rattle.record.specs.Writing.{So-far}
 use Rattle.record.proofs.write.put_header.Needs as need
 
 pub returns : need.returns

@@ -5,8 +5,9 @@ use mathlib.Core.List.{List, []}
 use Prim.Native.Nat.{ℕ, _+_, _-_, _<_, _≤_}
 use lib.ListN.{length, getD, take, drop, length-take, length-drop}
 use borrow.Author.Needs.{needs}
-use Rattle.record.proofs.Rows.{state-of}
-use Rattle.record.proofs.Written.{So-far, so-far-then, so-far-as, up-to, up-to-more, up-to-le, up-to-room}
+use Rattle.record.specs.Writing.{state-of}
+use Rattle.record.proofs.Written.{so-far-then, so-far-as, up-to, up-to-more, up-to-le, up-to-room}
+use Rattle.record.specs.Writing.{So-far}
 use Rattle.record.proofs.write.put_states.Needs as need
 
 pub part-put-state-count : need.part-put-state-count

@@ -1,6 +1,7 @@
 use mathlib.Core.List.{_++_}
 use Rattle.record.specs.Records.{header}
-use Rattle.record.proofs.Written.{part, So-far}
+use Rattle.record.proofs.Written.{part}
+use Rattle.record.specs.Writing.{So-far}
 use Rattle.record.proofs.write.put_states.Given as given
 
 abbrev pub Inv-loop-s : given.InvT-loop-s

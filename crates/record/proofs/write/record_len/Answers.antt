@@ -5,7 +5,7 @@ use mathlib.Core.List.{[], _++_}
 use Prim.Native.Nat.{_+_, _<_, _≤_}
 use lib.ListN.{length, getD, length-append}
 use Rattle.record.specs.Records.{header}
-use Rattle.record.proofs.Rows.{state-of}
+use Rattle.record.specs.Writing.{state-of}
 use Rattle.record.proofs.Written.{part, part-more, up-to, up-to-le, record-bound}
 use Rattle.record.proofs.write.record_len.Needs as need
 

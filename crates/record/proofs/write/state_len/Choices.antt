@@ -1,6 +1,6 @@
 use mathlib.Core.Path.{_≡_}
 use lib.ListN.{length}
-use Rattle.record.proofs.Rows.{front}
+use Rattle.record.specs.Writing.{front}
 use Rattle.record.proofs.write.state_len.Given as given
 
 abbrev pub Inv-loop-p : given.InvT-loop-p

@@ -1,0 +1,4 @@
+pub mod Scans
+pub mod Parses
+pub mod Latest
+pub mod Exact

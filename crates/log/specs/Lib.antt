@@ -1,0 +1,4 @@
+pub mod Logs
+pub mod Meanings
+pub mod Told
+pub mod Heads
