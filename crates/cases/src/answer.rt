@@ -26,6 +26,7 @@ pub enum Answer {
 }
 
 impl Answer {
+    // The answer to a line: its first word says the kind of case.
     pub fn to(line: &[u8], heap: Global) -> Result<Answer, AllocError> {
         let (kind, text) = cut(line, b' ');
         match kind {
@@ -65,6 +66,7 @@ fn to_log_bytes(bytes: &[u8], heap: Global) -> Result<Answer, AllocError> {
     }
 }
 
+// What a log knows at each of its instants.
 fn known_line(log: &Log<'_>, heap: Global) -> Result<String, AllocError> {
     let (places, instants) = (log.places(), log.loop_start().0);
     let mut line = format!(heap, "ok {places} {instants}")?;
@@ -90,6 +92,7 @@ pub impl fmt::Display for Answer as AnswerDisplay {
     }
 }
 
+// The counts of a trace, and for each state the held places.
 fn show_trace<W: fmt::Write>(trace: &Trace, f: &mut fmt::Formatter<W>) -> fmt::Result {
     let states = trace.states();
     write!(f, "ok {} {states} {}", trace.places(), trace.loop_start().0)?;

@@ -1,5 +1,5 @@
 -- The table of all refusals, for src/lib. Assumes nothing.
-use Prim.Native.Nat.{ℕ, _≤_}
+use Prim.Native.Nat.{ℕ}
 use mathlib.Core.Bool.{cond}
 use lib.Dec.{leb}
 use Rattle.std.specs.declared.option.Option.{Option}

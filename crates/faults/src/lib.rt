@@ -1,5 +1,5 @@
 //! Every refusal of the product: its number, its layer, its place, and words for it.
-ghost use Prim.Native.Nat.{ℕ, _≤_};
+ghost use Prim.Native.Nat.{_≤_};
 ghost use mathlib.Core.Path.{_≡_};
 ghost use Rattle.faults.specs.Table.{entry, layerOf};
 use lasso::Instant;

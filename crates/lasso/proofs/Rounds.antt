@@ -1,10 +1,10 @@
 -- Endless paths that come round again, and lassos with fewer states.
 use Prim.Native.Nat.{ℕ, zero, suc, _+_, _-_, _<_, _≤_}
 use native.Mathlib.Omega.{arith}
-use mathlib.Core.Path.{_≡_, refl, sym, ap, _∙_}
+use mathlib.Core.Path.{_≡_, sym, ap, _∙_}
 use mathlib.Core.Logic.{⊎-elim}
 use Rattle.std.proofs.shelf.Tests.{cases-lt}
-use Rattle.lasso.specs.Lassos.{stateAt, path, Repeats, Shorter, Fewest}
+use Rattle.lasso.specs.Lassos.{path, Repeats, Shorter, Fewest}
 use Rattle.lasso.proofs.Folds.{stateAt-first, stateAt-again}
 
 module _ {V : Type 0} (k l : ℕ) (f : ℕ → ℕ → V) (ok : l < k) where

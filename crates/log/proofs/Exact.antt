@@ -1,14 +1,13 @@
 -- Accepted are exactly the logs.
-use Prim.Native.Nat.{ℕ, zero, suc, _+_, _-_, _*_, _/_, _<_, _≤_}
+use Prim.Native.Nat.{ℕ, zero, suc, _+_, _-_, _*_, _<_, _≤_}
 use native.Mathlib.Omega.{arith}
 use mathlib.Core.Path.{_≡_, refl, sym, ap, subst, _∙_}
-use mathlib.Core.Bool.{Bool, true, cond, _&&_}
+use mathlib.Core.Bool.{true, _&&_}
 use mathlib.Core.List.{List, [], _∷_, _++_, append-nil, append-assoc}
 use lib.ListN.{length, take, drop, length-append}
 use lib.Dec.{ltb, leb}
 use Rattle.std.specs.Joined.{joined}
 use Rattle.std.specs.Results.{isOk}
-use Rattle.std.specs.declared.result.Result.{Result}
 use Rattle.std.specs.declared.result.Result.the-variants.{Ok, Err}
 use Rattle.std.proofs.shelf.Lists.{drop-all, length-drop}
 use Rattle.std.proofs.shelf.Tests.{cond-false, le-ltb, leb-true, ltb-true, and-parts}
@@ -22,11 +21,12 @@ use Rattle.numbers.specs.Lists.{Read, read, entry, entries, list, lists, list-b
 use Rattle.numbers.proofs.ListsSound.{never, ok-inj, then-inv, cond-inv, edition-sound, within-sound, lists-sound}
 use Rattle.numbers.proofs.ListsComplete.{number, skip, within-complete, edition-complete, lists-complete}
 use Rattle.source.proofs.Paths.{first-means}
-use Rattle.log.specs.Logs.{placeOf, most-bytes, most-instants, Said, Heading, heading, ended, parse, saidBy, said, IsLog, log-of}
-use Rattle.log.specs.Meanings.{latestOf, logMeaning, known}
-use Rattle.log.specs.Told.{Accepted, Refused, IsRead}
-use Rattle.log.proofs.Parses.{Parsed, parse-inv, ok-of}
+use Rattle.log.specs.Logs.{placeOf, most-bytes, Said, Heading, heading, ended, parse, saidBy, said, IsLog, log-of}
+use Rattle.log.specs.Meanings.{latestOf}
+use Rattle.log.specs.Told.{Refused, IsRead}
+use Rattle.log.proofs.Parses.{parse-inv, ok-of}
 use Rattle.log.proofs.Latest.{from-latest}
+use Rattle.log.proofs.Settles.{settles}
 
 -- ---- what was read keeps the limits
 module _ (f : ℕ → ℕ) (bs : List ℕ) (n : ℕ) where
@@ -193,5 +193,5 @@ is-read bs b ok =
       path = first-means (said bs .places) (said bs .instants) (λ p i. latestOf p Open (take (i + 1) (said bs .marks)));
     }
 
-pub is-refused : (bs : List ℕ) (f : Fault) → parse bs ≡ Err f → Refused bs f
-is-refused bs f e = record { why = e; no-log = λ d g x. never f d (sym e ∙ ap parse x ∙ complete d g) }
+pub is-refused : (bs : List ℕ) (f : Fault) → Bytes bs → parse bs ≡ Err f → Refused bs f
+is-refused bs f bytes e = record { why = e; no-log = λ d g x. never f d (sym e ∙ ap parse x ∙ complete d g); settled = settles bs bytes f e }

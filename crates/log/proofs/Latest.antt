@@ -1,16 +1,15 @@
 -- The value of a place is what its latest mark says.
-use Prim.Native.Nat.{ℕ, zero, suc, _+_, _%_, _<_, _≤_}
+use Prim.Native.Nat.{ℕ, zero, suc, _+_, _<_}
 use native.Mathlib.Omega.{arith}
 use mathlib.Core.Path.{_≡_, refl, sym, ap, subst, _∙_}
-use mathlib.Core.Bool.{cond}
 use mathlib.Core.List.{List, [], _∷_, _++_}
 use mathlib.Core.Logic.{_⊎_, inl, inr, ⊎-elim}
-use lib.ListN.{length, getD, take}
+use lib.ListN.{take}
 use lib.Dec.{ltb, eqb}
 use Rattle.std.specs.Joined.{joined}
 use Rattle.std.proofs.shelf.Tests.{cases-eq, cond-true, cond-false, eq-eqb, ne-eqb, lt-ltb}
 use Rattle.lasso.specs.declared.value.Value.{Value}
-use Rattle.lasso.specs.declared.value.Value.the-variants.{No, Open, Yes}
+use Rattle.lasso.specs.declared.value.Value.the-variants.{Open}
 use Rattle.log.specs.Logs.{placeOf, Said}
 use Rattle.log.specs.Meanings.{mark, latest, latestOf, known, NoMark, LastMark, FromLatest, marksTo}
 

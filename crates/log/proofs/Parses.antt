@@ -1,12 +1,12 @@
 -- What is known of bytes that were read as a log.
 use Prim.Native.Nat.{ℕ, zero, suc, _+_, _-_, _<_, _≤_}
 use native.Mathlib.Omega.{arith}
-use mathlib.Core.Path.{_≡_, refl, sym, ap, subst, _∙_}
-use mathlib.Core.Bool.{Bool, true, false, cond, _&&_}
+use mathlib.Core.Path.{_≡_, refl, sym, ap, _∙_}
+use mathlib.Core.Bool.{true, false}
 use mathlib.Core.List.{List, [], _∷_, _++_, append-nil, append-assoc}
 use mathlib.Core.Logic.{⊎-elim}
-use lib.ListN.{length, take, drop}
-use lib.Dec.{ltb, leb}
+use lib.ListN.{length, take}
+use lib.Dec.{ltb}
 use Rattle.std.specs.Results.{isOk}
 use Rattle.std.specs.declared.result.Result.{Result}
 use Rattle.std.specs.declared.result.Result.the-variants.{Ok, Err}
@@ -18,11 +18,11 @@ use Rattle.lasso.specs.declared.value.Value.{Value}
 use Rattle.lasso.specs.declared.value.Value.the-variants.{Open}
 use Rattle.source.specs.Meanings.{Kept}
 use Rattle.numbers.specs.Lists.{Read, read, list, lists}
-use Rattle.numbers.proofs.Lists.{lists-got, lists-err, lists-done}
+use Rattle.numbers.proofs.Lists.{lists-got, lists-err}
 use Rattle.numbers.proofs.ListsSound.{never, ok-inj, then-inv, cond-out}
 use Rattle.log.specs.declared.marks.Told.{Told}
 use Rattle.log.specs.declared.log.calls.Header.{Header}
-use Rattle.log.specs.Logs.{placeOf, most-bytes, most-instants, Said, Heading, heading, ended, parse, saidBy, said}
+use Rattle.log.specs.Logs.{placeOf, most-bytes, Said, Heading, heading, parse, saidBy, said}
 use Rattle.log.specs.Meanings.{latest, latestOf, logMeaning}
 use Rattle.log.specs.Told.{told, afterMarks}
 use Rattle.log.specs.Heads.{headingAs, Headed}

@@ -1,7 +1,7 @@
 -- What the loop over the marks of an instant keeps.
-use Prim.Native.Nat.{ℕ, zero, suc, _+_, _-_, _<_, _≤_}
+use Prim.Native.Nat.{ℕ, zero, suc, _+_, _-_, _<_}
 use native.Mathlib.Omega.{arith}
-use mathlib.Core.Path.{_≡_, refl, sym, ap, _∙_}
+use mathlib.Core.Path.{_≡_, refl, ap, _∙_}
 use mathlib.Core.List.{List, [], _∷_, _++_}
 use Rattle.std.specs.declared.result.Result.{Result}
 use Rattle.std.specs.declared.result.Result.the-variants.{Ok, Err}
@@ -9,8 +9,7 @@ use Rattle.faults.specs.declared.Fault.{Fault}
 use Rattle.lasso.specs.declared.value.Value.{Value}
 use Rattle.numbers.specs.declared.read.Number.{Number}
 use Rattle.numbers.specs.Numbers.{andThen, within}
-use Rattle.numbers.specs.Lists.{Read, read, entry, entries, list}
-use Rattle.log.specs.declared.marks.Told.{Told}
+use Rattle.numbers.specs.Lists.{entry, entries, list}
 use Rattle.log.specs.Logs.{placeOf}
 use Rattle.log.specs.Meanings.{mark, latest, latestOf}
 use Rattle.log.specs.Told.{told, afterMarks, scan}
@@ -56,6 +55,3 @@ module _ (p : ℕ) (bs : List ℕ) (n : ℕ) where
   pub scan-list : (at : ℕ) (v : Value) (c : Number) → within bs at 0 n ≡ Ok c → afterMarks p v (list placeOf bs n at) ≡ scan p bs n (c .value) 0 (c .next) v
   scan-list at v c e =
       ap (λ r. afterMarks p v (andThen r (λ c. entries placeOf bs n (c .value) 0 (c .next) []))) e ∙ scan-entries (c .value) 0 (c .next) [] v
-
-  pub scan-no-list : (at : ℕ) (v : Value) (f : Fault) → within bs at 0 n ≡ Err f → afterMarks p v (list placeOf bs n at) ≡ Err f
-  scan-no-list at v f e = ap (λ r. afterMarks p v (andThen r (λ c. entries placeOf bs n (c .value) 0 (c .next) []))) e

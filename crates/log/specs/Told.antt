@@ -1,17 +1,17 @@
 -- What the reader of a log answers, and what it finds on its way. Assumes nothing.
-use Prim.Native.Nat.{ℕ, zero, suc, _+_, _<_, _≤_}
+use Prim.Native.Nat.{ℕ, zero, suc, _+_, _<_}
 use mathlib.Core.Path.{_≡_}
 use mathlib.Core.Bool.{true}
-use mathlib.Core.List.{List, []}
-use lib.ListN.{length}
+use mathlib.Core.List.{List}
 use Rattle.std.specs.declared.result.Result.{Result}
 use Rattle.std.specs.declared.result.Result.the-variants.{Ok, Err}
 use Rattle.std.specs.Results.{isOk}
 use Rattle.faults.specs.declared.Fault.{Fault}
 use Rattle.lasso.specs.declared.value.Value.{Value}
 use Rattle.numbers.specs.Numbers.{andThen, Bytes}
-use Rattle.numbers.specs.Lists.{Read, entry, list}
+use Rattle.numbers.specs.Lists.{Read, entry}
 use Rattle.log.specs.declared.marks.Told.{Told}
+use Rattle.numbers.specs.Settled.{Settled}
 use Rattle.source.specs.Meanings.{Means}
 use Rattle.log.specs.Logs.{placeOf, Said, IsLog, log-of, parse, said}
 use Rattle.log.specs.Meanings.{mark, latest, known, FromLatest, marksTo, logMeaning}
@@ -43,7 +43,8 @@ pub record IsRead (bs : List ℕ) : Type 0 where
   pub path : Means (logMeaning (said bs)) (said bs .places) (known (said bs))
   pub latest-mark : (p i : ℕ) → i < said bs .instants → FromLatest p (marksTo (said bs) i) (known (said bs) p i)
 
--- bytes are refused: they are no log, and this is the fault
+-- bytes are refused: they are no log, this is the fault, and a number at fault settles it whatever follows
 pub record Refused (bs : List ℕ) (f : Fault) : Type 0 where
   pub why : parse bs ≡ Err f
   pub no-log : (d : Said) → IsLog d → bs ≡ log-of d → ⊥
+  pub settled : Settled parse bs f

@@ -1,5 +1,5 @@
 ghost use mathlib.Core.Path.{_≡_};
-ghost use Prim.Native.Nat.{ℕ, _+_, _-_, _^_, _<_, _≤_};
+ghost use Prim.Native.Nat.{_+_, _-_, _^_, _<_, _≤_};
 ghost use lib.ListN.{length, drop};
 ghost use Rattle.std.specs.Results.{Cases};
 ghost use Rattle.std.specs.Vec.{made};
@@ -21,6 +21,7 @@ enum First {
     NotShortest,
 }
 
+// Reads group by group.
 fn first_number(rest: &[u8]) -> First
     ensures value { λ r. ⌜ r ≡ first (now (rest .entry)) ⌝ }
     ensures inside { λ r. ⌜ Inside (length (now (rest .entry))) r ⌝ }
@@ -57,6 +58,7 @@ pub fn read_number(bytes: &[u8], at: usize) -> Result<Number, Fault>
     number_at(bytes, at)
 }
 
+// What it means that a number stands there, or none.
 fn number_at(bytes: &[u8], at: usize) -> Result<Number, Fault>
     ensures value { λ r. ⌜ r ≡ readAt (now (bytes .entry)) at ⌝ }
     ensures small { λ r. ⌜ made r (λ n. n .value < 2 ^ 21) ⌝ }
@@ -66,6 +68,7 @@ fn number_at(bytes: &[u8], at: usize) -> Result<Number, Fault>
     placed_number(bytes, at)
 }
 
+// The number at a byte, or why there is none and where.
 fn placed_number(bytes: &[u8], at: usize) -> Result<Number, Fault>
     ensures value { λ r. ⌜ r ≡ readAt (now (bytes .entry)) at ⌝ }
     ensures small { λ r. ⌜ made r (λ n. n .value < 2 ^ 21) ⌝ }

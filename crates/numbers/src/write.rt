@@ -27,6 +27,7 @@ pub fn write_number(n: u16, buffer: &mut [u8]) -> Result<usize, Fault>
     Ok(put_number(n, buffer))
 }
 
+// What is written reads back.
 fn put_number(n: u16, buffer: &mut [u8]) -> usize
     requires { ⌜ length (encode n) ≤ length (now buffer) ⌝ }
     ensures { λ r. ⌜ Wrote n (now (buffer .entry)) (now (buffer .exit)) r ⌝ }
@@ -34,6 +35,7 @@ fn put_number(n: u16, buffer: &mut [u8]) -> usize
     put_groups(n, buffer)
 }
 
+// Writes group by group, lowest first.
 fn put_groups(n: u16, buffer: &mut [u8]) -> usize
     requires { ⌜ length (encode n) ≤ length (now buffer) ⌝ }
     ensures len { λ r. ⌜ r ≡ length (encode n) ⌝ }

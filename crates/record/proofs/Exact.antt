@@ -1,31 +1,32 @@
 -- Accepted are exactly the records of traces: each trace has one, and it is read as that trace.
-use Prim.Native.Nat.{ℕ, _+_, _<_, _≤_}
+use Prim.Native.Nat.{ℕ, _<_, _≤_}
 use native.Mathlib.Nat.{zero-add}
 use native.Mathlib.Omega.{arith}
 use mathlib.Core.Path.{_≡_, refl, sym, ap, subst, _∙_}
 use mathlib.Core.Bool.{Bool, false}
-use mathlib.Core.List.{List, [], _++_}
+use mathlib.Core.List.{List, []}
 use mathlib.Core.Logic.{inl, inr, ⊎-elim}
-use lib.ListN.{length, getD, take, drop, length-take}
+use lib.ListN.{length, getD, take, length-take}
 use Rattle.std.specs.declared.result.Result.the-variants.{Ok, Err}
 use Rattle.std.proofs.shelf.Lists.{take-at, getD-map, getD-take, getD-past, length-map}
-use Rattle.std.proofs.shelf.Tests.{cases-lt}
+use Rattle.std.proofs.shelf.Tests.{cases-lt, false≢true}
 use Rattle.faults.specs.declared.Fault.{Fault}
 use Rattle.faults.specs.declared.Fault.the-variants.{FewerStatesWouldDo}
-use Rattle.lasso.specs.Lassos.{stateAt, path, Shorter, Fewest}
+use Rattle.lasso.specs.Lassos.{stateAt, Fewest}
 use Rattle.trace.specs.declared.trace.Trace.{Trace}
 use Rattle.trace.specs.Tables.{holds, NoneOutside}
-use Rattle.trace.specs.Traces.{IsTrace, SameFields}
+use Rattle.trace.specs.Traces.{IsTrace}
 use Rattle.trace.proofs.One.{same-trace}
 use Rattle.numbers.specs.Numbers.{over, Bytes}
 use Rattle.numbers.proofs.ListsSound.{never, ok-inj}
 use Rattle.record.specs.declared.read.Lasso.{Lasso}
 use Rattle.record.specs.Records.{Said, helds, rowsOf, said, record-of, among, holdsBy}
-use Rattle.record.specs.Reading.{parse, ReadsAs, Accepted, NotFewest, Refused}
+use Rattle.record.specs.Reading.{parse, ReadsAs, Accepted, Refused}
 use Rattle.record.specs.Lassos.{sayingOf, Fits}
-use Rattle.record.proofs.Rows.{helds-inj, among-helds}
+use Rattle.record.proofs.Rows.{among-helds}
 use Rattle.record.proofs.Sound.{sound}
 use Rattle.record.proofs.Complete.{complete}
+use Rattle.record.proofs.Settles.{settles}
 
 row-at : (k : ℕ) (held : List (List Bool)) (s : ℕ) → k ≤ length held → s < k → getD (rowsOf k held) s [] ≡ helds 0 (getD held s [])
 row-at k held s tall h =
@@ -79,8 +80,8 @@ written-back t old new len e f =
     reads-as (take len new) t (ap parse r ∙ complete t)
 
 -- ---- what is refused
-pub refused-reading : (bs : List ℕ) (f : Fault) → parse bs ≡ Err f → Refused bs f
-refused-reading bs f e = record { no-record = λ t r. never f (said t) (sym e ∙ ap parse r ∙ complete t); why = inl e }
+pub refused-reading : (bs : List ℕ) (f : Fault) → Bytes bs → parse bs ≡ Err f → Refused bs f
+refused-reading bs f bytes e = record { no-record = λ t r. never f (said t) (sym e ∙ ap parse r ∙ complete t); why = inl e; settled = settles bs bytes f e }
 
 fewest-same : {k l : ℕ} (f g : ℕ → ℕ → Bool) → ((s p : ℕ) → f s p ≡ g s p) → Fewest k l f → Fewest k l g
 fewest-same {k} {l} f g same few x =
@@ -101,4 +102,4 @@ module _ (bs : List ℕ) (l : Lasso) (fits : Fits l) (e : parse bs ≡ Ok (sayin
       too-many (subst P x few)
 
   pub refused-states : Refused bs FewerStatesWouldDo
-  refused-states = record { no-record = no-trace; why = inr (record { lasso = sayingOf l; says = e; too-many = too-many }, refl) }
+  refused-states = record { no-record = no-trace; why = inr (record { lasso = sayingOf l; says = e; too-many = too-many }, refl); settled = λ b. absurd (false≢true b) }

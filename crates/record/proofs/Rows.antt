@@ -1,19 +1,18 @@
 -- The held places of a row, and the bytes of a state.
 use Prim.Native.Nat.{ℕ, zero, suc, _+_, _-_, _*_, _<_, _≤_}
-use native.Mathlib.Nat.{add-zero, zero-add}
+use native.Mathlib.Nat.{add-zero}
 use native.Mathlib.Omega.{arith}
 use mathlib.Core.Path.{_≡_, refl, sym, ap, subst, _∙_}
-use mathlib.Core.Bool.{Bool, true, false, cond, _||_}
+use mathlib.Core.Bool.{Bool, true, false, _||_}
 use mathlib.Core.List.{List, [], _∷_, _++_, append-assoc, append-nil}
 use lib.ListN.{length, getD, take, drop, replicate, length-append, length-take, take-append-drop}
-use lib.Dec.{eqb}
 use Rattle.std.specs.Joined.{joined}
 use Rattle.std.proofs.shelf.Lists.{take-more, take-all, getD-drop}
 use Rattle.std.proofs.shelf.Tests.{eq-eqb, ne-eqb, false≢true}
 use Rattle.std.proofs.shelf.Ways.{tells}
 use Rattle.trace.specs.Tables.{Empty}
 use Rattle.numbers.specs.Numbers.{encode}
-use Rattle.numbers.specs.Lists.{list-bytes, Ascends}
+use Rattle.numbers.specs.Lists.{Ascends}
 use Rattle.numbers.proofs.Lists.{ascends-low, ascends-high}
 use Rattle.record.specs.Writing.{state-of, front}
 use Rattle.record.specs.Records.{itself, helds, among}

@@ -1,10 +1,10 @@
 -- What the writers keep: what is written so far stands at the start, and the rest of the buffer is as it was.
 use Prim.Native.Nat.{ℕ, zero, suc, _+_, _-_, _*_, _<_, _≤_}
 use native.Mathlib.Omega.{arith}
-use mathlib.Core.Path.{_≡_, refl, sym, ap, _∙_}
+use mathlib.Core.Path.{_≡_, sym, ap, _∙_}
 use mathlib.Core.Bool.{Bool}
 use mathlib.Core.List.{List, [], _∷_, _++_, append-assoc, append-nil, map, map-append}
-use lib.ListN.{length, getD, drop, take, length-append, length-take, length-drop, take-append-drop}
+use lib.ListN.{length, getD, drop, take, length-append, length-drop, take-append-drop}
 use borrow.Rule.Slice.PartMut.{putMid}
 use Rattle.std.specs.Joined.{joined}
 use Rattle.std.proofs.shelf.Lists.{drop-all, drop-drop, take-at, drop-at, take-all, take-take, take-more}
@@ -17,10 +17,6 @@ use Rattle.record.proofs.Rows.{joined-append, state-bound, length-encode}
 
 past : (xs ys old : List ℕ) → drop (length ys) (drop (length xs) old) ≡ drop (length (xs ++ ys)) old
 past xs ys old = drop-drop (length ys) (length xs) old ∙ ap (λ n. drop n old) (sym (length-append xs ys))
-
-pub over-over : (xs ys old : List ℕ) → over (xs ++ ys) (over xs old) ≡ over (xs ++ ys) old
-over-over xs ys old =
-    ap (λ z. (xs ++ ys) ++ z) (sym (past xs ys (over xs old)) ∙ ap (drop (length ys)) (drop-at xs (drop (length xs) old) (length xs) refl) ∙ past xs ys old)
 
 over-then : (xs ys old buf last : List ℕ) (at k : ℕ) → buf ≡ over xs old → at ≡ length xs → k ≡ length buf - at → last ≡ over ys (take k (drop at buf))
     → putMid at k buf last ≡ over (xs ++ ys) old

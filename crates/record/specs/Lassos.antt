@@ -1,5 +1,5 @@
 -- What the reader holds of a record while it reads. Assumes nothing.
-use Prim.Native.Nat.{ℕ, _<_, _≤_}
+use Prim.Native.Nat.{_≤_}
 use mathlib.Core.Path.{_≡_}
 use lib.ListN.{length}
 use Rattle.trace.specs.Tables.{most-places, most-states, NoneOutside}

@@ -15,6 +15,7 @@ use Rattle.trace.specs.declared.trace.Trace.{Trace}
 use Rattle.trace.specs.Tables.{most-places, most-states}
 use Rattle.numbers.specs.Numbers.{andThen, readAt, within, edition, over, Bytes}
 use Rattle.numbers.specs.Lists.{Read, lists}
+use Rattle.numbers.specs.Settled.{Settled}
 use Rattle.record.specs.Records.{itself, Said, said, record-of, holdsBy}
 
 abbrev pub most-bytes : ℕ
@@ -66,10 +67,11 @@ pub record NotFewest (bs : List ℕ) : Type 0 where
   pub says : parse bs ≡ Ok lasso
   pub too-many : Fewest (lasso .states) (lasso .start) (holdsBy lasso) → ⊥
 
--- bytes are refused: no trace has them for its record, and this is the fault
+-- bytes are refused: no trace has them for its record, this is the fault, and a number at fault settles it whatever follows
 pub record Refused (bs : List ℕ) (f : Fault) : Type 0 where
   pub no-record : (t : Trace) → bs ≡ record-of (said t) → ⊥
   pub why : (parse bs ≡ Err f) ⊎ (NotFewest bs × (f ≡ FewerStatesWouldDo))
+  pub settled : Settled parse bs f
 
 -- a trace's record was written over the start of a buffer, and reads back as that trace
 pub record Wrote (t : Trace) (old new : List ℕ) (len : ℕ) : Type 0 where

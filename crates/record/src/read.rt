@@ -1,8 +1,8 @@
 ghost use mathlib.Core.Path.{_≡_};
 ghost use mathlib.Core.Bool.{false};
-ghost use mathlib.Core.List.{List, []};
-ghost use Prim.Native.Nat.{ℕ, _+_, _-_, _<_, _≤_};
-ghost use lib.ListN.{length, getD, take, replicate};
+ghost use mathlib.Core.List.{[]};
+ghost use Prim.Native.Nat.{_+_, _-_, _<_, _≤_};
+ghost use lib.ListN.{length, replicate};
 ghost use Rattle.std.specs.Results.{Cases};
 ghost use Rattle.std.specs.Vec.{made};
 ghost use Rattle.std.specs.declared.result.Result.the-variants.{Ok, Err};
@@ -52,6 +52,7 @@ pub fn read_record(bytes: &[u8], trace: &mut Trace) -> Result<(), Fault>
     Ok(())
 }
 
+// The trace of a lasso that was read; none where fewer states would do.
 fn read_trace(bytes: &[u8]) -> Result<Trace, Fault>
     ensures { λ r. ⌜ Cases r (λ t. Accepted (now (bytes .entry)) t) (λ f. Refused (now (bytes .entry)) f) ⌝ }
 {
@@ -62,6 +63,7 @@ fn read_trace(bytes: &[u8]) -> Result<Trace, Fault>
     }
 }
 
+// Reads all but whether fewer states would do.
 fn read_lasso(bytes: &[u8]) -> Result<Lasso, Fault>
     ensures { λ r. ⌜ Cases r (λ l. (parse (now (bytes .entry)) ≡ Ok (sayingOf l)) × Fits l) (λ f. parse (now (bytes .entry)) ≡ Err f) ⌝ }
 {
@@ -81,6 +83,7 @@ fn read_lasso(bytes: &[u8]) -> Result<Lasso, Fault>
     })
 }
 
+// Reads what comes before the states.
 fn read_header(bytes: &[u8]) -> Result<Header, Fault>
     ensures value { λ r. ⌜ Cases r (λ h. headingOf (now (bytes .entry)) ≡ Ok (headingAs h)) (λ f. headingOf (now (bytes .entry)) ≡ Err f) ⌝ }
     ensures limits { λ r. ⌜ made r (λ h. (h .places ≤ 768) × (h .shape .states ≤ 8) × (h .next ≤ length (now (bytes .entry)))) ⌝ }

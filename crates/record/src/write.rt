@@ -1,5 +1,5 @@
 ghost use mathlib.Core.Path.{_≡_};
-ghost use Prim.Native.Nat.{ℕ, _+_, _<_, _≤_};
+ghost use Prim.Native.Nat.{_+_, _<_, _≤_};
 ghost use lib.ListN.{length};
 ghost use Rattle.std.specs.Results.{Cases};
 ghost use Rattle.numbers.specs.Numbers.{encode, over};
@@ -22,6 +22,7 @@ pub fn write_record(trace: &Trace, buffer: &mut [u8]) -> Result<usize, Fault>
     Ok(put_record(trace, buffer))
 }
 
+// What is written reads back.
 fn put_record(trace: &Trace, buffer: &mut [u8]) -> usize
     requires { ⌜ length (record-of (said (now trace))) ≤ length (now buffer) ⌝ }
     ensures { λ r. ⌜ Wrote (now (trace .entry)) (now (buffer .entry)) (now (buffer .exit)) r ⌝ }
@@ -29,6 +30,7 @@ fn put_record(trace: &Trace, buffer: &mut [u8]) -> usize
     put_states(trace, buffer)
 }
 
+// Writes the header, and then lends what is left of the buffer to the writer of one state.
 fn put_states(trace: &Trace, buffer: &mut [u8]) -> usize
     requires { ⌜ length (record-of (said (now trace))) ≤ length (now buffer) ⌝ }
     ensures len { λ r. ⌜ r ≡ length (record-of (said (now (trace .entry)))) ⌝ }
@@ -41,6 +43,7 @@ fn put_states(trace: &Trace, buffer: &mut [u8]) -> usize
     at
 }
 
+// Writes what comes before the states.
 fn put_header(trace: &Trace, buffer: &mut [u8]) -> usize
     requires { ⌜ length (headerOf (now trace)) ≤ length (now buffer) ⌝ }
     ensures len { λ r. ⌜ r ≡ length (headerOf (now (trace .entry))) ⌝ }
@@ -116,6 +119,7 @@ fn record_len(trace: &Trace) -> usize
     len
 }
 
+// How many bytes come before the states.
 fn header_len(trace: &Trace) -> usize
     ensures value { λ r. ⌜ r ≡ length (headerOf (now (trace .entry))) ⌝ }
     ensures few { λ r. ⌜ r ≤ 12 ⌝ }

@@ -1,8 +1,8 @@
 -- The paths that the sources mean.
-use Prim.Native.Nat.{ℕ, zero, suc, _+_, _-_, _<_, _≤_}
+use Prim.Native.Nat.{ℕ, zero, suc, _+_, _-_, _≤_}
 use native.Mathlib.Omega.{arith}
 use mathlib.Core.Path.{_≡_, refl, sym, ap, _∙_}
-use mathlib.Core.Bool.{Bool, true, false, cond, _&&_}
+use mathlib.Core.Bool.{cond, _&&_}
 use mathlib.Core.Logic.{⊎-elim}
 use lib.Dec.{ltb}
 use Rattle.std.proofs.shelf.Tests.{cases-lt, cond-true, cond-false, and-from, and-left, and-right, lt-ltb, le-ltb}
@@ -11,8 +11,8 @@ use Rattle.lasso.specs.declared.value.Value.the-variants.{Open}
 use Rattle.lasso.specs.Lassos.{stateAt}
 use Rattle.lasso.proofs.Folds.{stateAt-first, stateAt-below, stateAt-again}
 use Rattle.trace.specs.declared.trace.Trace.{Trace}
-use Rattle.trace.specs.Traces.{heldIn, behaviour}
-use Rattle.source.specs.Meanings.{Meaning, Means, toldAt}
+use Rattle.trace.specs.Traces.{behaviour}
+use Rattle.source.specs.Meanings.{Means}
 use Rattle.source.specs.Sources.{told, traceMeaning, allKnown, firstMeaning, firstKnown}
 
 -- in a lasso whose last state follows itself, that state comes and stays

@@ -3,7 +3,7 @@ use Prim.Native.Nat.{ℕ, _<_, _≤_}
 use mathlib.Core.Path.{_≡_}
 use mathlib.Core.Logic.{_⊎_}
 use Rattle.lasso.specs.declared.value.Value.{Value}
-use Rattle.lasso.specs.declared.value.Value.the-variants.{No, Open, Yes}
+use Rattle.lasso.specs.declared.value.Value.the-variants.{Open}
 use Rattle.lasso.specs.Lassos.{stateAt}
 
 abbrev pub most-places : ℕ

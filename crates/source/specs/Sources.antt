@@ -1,5 +1,5 @@
 -- The meanings of the blank source, of a trace and of the first instants of a trace. Assumes nothing.
-use Prim.Native.Nat.{ℕ, _+_, _<_, _≤_}
+use Prim.Native.Nat.{ℕ, _+_}
 use mathlib.Core.Bool.{Bool, true, false, cond, _&&_}
 use lib.Dec.{ltb}
 use Rattle.lasso.specs.declared.value.Value.{Value}

@@ -2,7 +2,7 @@ ghost use mathlib.Core.Path.{_≡_};
 ghost use Prim.Native.Nat.{_<_, _≤_};
 ghost use Rattle.std.specs.Results.{Cases};
 ghost use Rattle.faults.specs.declared.Fault.the-variants.{OutsideSource};
-ghost use Rattle.source.specs.Meanings.{Meaning, Kept, Means, most-places};
+ghost use Rattle.source.specs.Meanings.{Means, most-places};
 ghost use Rattle.source.specs.Sources.{blankMeaning, nothingKnown};
 use super::MOST_PLACES;
 use super::Source;
@@ -29,6 +29,7 @@ impl Blank {
     }
 }
 
+// The path of the blank source.
 fn blank_of(places: usize) -> Blank
     requires { ⌜ places ≤ 768 ⌝ }
     ensures { λ r. ⌜ Means (blankMeaning (r .places)) places nothingKnown ⌝ }

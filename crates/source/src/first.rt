@@ -3,7 +3,7 @@ ghost use Prim.Native.Nat.{_<_, _≤_};
 ghost use denote.Ref.{now as held};
 ghost use Rattle.std.specs.Results.{Cases};
 ghost use Rattle.faults.specs.declared.Fault.the-variants.{OutsideSource};
-ghost use Rattle.source.specs.Meanings.{Meaning, Kept, Means};
+ghost use Rattle.source.specs.Meanings.{Means};
 ghost use Rattle.source.specs.Sources.{firstMeaning, firstKnown};
 use super::Source;
 use super::of_trace::told;
@@ -51,6 +51,7 @@ impl FirstInstants {
     }
 }
 
+// The path of the first instants.
 fn prefix_of<'t>(trace: &'t Trace, count: usize) -> Prefix<'t>
     requires { ⌜ count ≤ 16 ⌝ }
     ensures same { λ r. ⌜ firstMeaning (now (r .trace)) (r .count) ≡ firstMeaning (now (trace .entry)) count ⌝ }

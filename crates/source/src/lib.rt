@@ -1,5 +1,4 @@
 //! Sources of knowledge: what is known of a behaviour, place by place and instant by instant.
-ghost use Prim.Native.Nat.{ℕ, _<_, _≤_};
 ghost use mathlib.Core.Path.{_≡_};
 ghost use Rattle.source.specs.Meanings.{Meaning, Kept};
 

@@ -1,5 +1,5 @@
 ghost use mathlib.Core.Path.{_≡_};
-ghost use Rattle.source.specs.Meanings.{Meaning, Kept, Means};
+ghost use Rattle.source.specs.Meanings.{Kept, Means};
 ghost use Rattle.source.specs.Sources.{told as toldOf, traceMeaning, allKnown};
 use super::Source;
 use lasso::State;
@@ -13,6 +13,7 @@ pub(crate) fn told(held: bool) -> Value
     if held { Value::Yes } else { Value::No }
 }
 
+// The path of a trace, beside its place count.
 fn place_count(trace: &Trace) -> usize
     ensures value { λ r. ⌜ r ≡ now (trace .entry) .places ⌝ }
     ensures path { λ _. ⌜ Means (traceMeaning (now (trace .entry))) (now (trace .entry) .places) (allKnown (now (trace .entry))) ⌝ }

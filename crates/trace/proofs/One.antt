@@ -1,21 +1,19 @@
 -- One trace for each behaviour.
-use Prim.Native.Nat.{ℕ, _<_, _≤_}
+use Prim.Native.Nat.{ℕ, _<_}
 use native.Mathlib.Omega.{arith}
-use mathlib.Core.Path.{_≡_, refl, sym, ap, _∙_}
-use mathlib.Core.Bool.{Bool, false}
-use mathlib.Core.List.{List, []}
+use mathlib.Core.Path.{_≡_, sym, ap, _∙_}
+use mathlib.Core.Bool.{false}
+use mathlib.Core.List.{[]}
 use mathlib.Core.Logic.{⊎-elim, inl}
-use lib.ListN.{length, getD}
+use lib.ListN.{getD}
 use denote.Struct.Record.{values-one}
 use Rattle.std.proofs.shelf.Lists.{ext-getD}
 use Rattle.std.proofs.shelf.Tests.{cases-lt}
 use Rattle.lasso.specs.declared.shape.Shape.{Shape}
 use Rattle.lasso.specs.contracts.shape.Shape as shape
-use Rattle.lasso.specs.Lassos.{path}
 use Rattle.lasso.proofs.One.{one-lasso}
 use Rattle.trace.specs.declared.trace.Trace.{Trace}
 use Rattle.trace.specs.contracts.trace.Trace as trace
-use Rattle.trace.specs.Tables.{holds}
 use Rattle.trace.specs.Traces.{heldIn, behaviour, SameFields, SameBehaviour}
 
 -- shapes and traces are what their fields hold

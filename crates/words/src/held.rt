@@ -54,6 +54,7 @@ pub impl fmt::Display for InWords<'_> as InWordsDisplay {
     }
 }
 
+// A line of words for a state.
 fn state_in_words<W: fmt::Write>(
     trace: &Trace,
     state: State,
@@ -67,6 +68,7 @@ fn state_in_words<W: fmt::Write>(
     writeln!(f, "state {s}: held {held}")
 }
 
+// Whether no place is held in a state.
 fn holds_nothing(trace: &Trace, state: State) -> bool {
     for place in 0..trace.places() {
         if trace.held(place, state) {

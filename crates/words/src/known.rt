@@ -55,6 +55,7 @@ fn before<S: Source>(source: &S, place: usize, instant: Instant) -> Value {
     told_at(source, place, Instant(instant.0 - 1))
 }
 
+// A place and its value, with a comma before it unless it is the first.
 fn show_value<W: fmt::Write>(
     place: usize,
     value: Value,
@@ -68,6 +69,7 @@ fn show_value<W: fmt::Write>(
     write!(f, "{place}={word}")
 }
 
+// The word for a value.
 fn value_word(value: Value) -> &'static str {
     match value {
         Value::No => "no",

@@ -1,5 +1,5 @@
 ghost use mathlib.Core.Path.{_≡_};
-ghost use Prim.Native.Nat.{ℕ, _<_, _≤_};
+ghost use Prim.Native.Nat.{_<_, _≤_};
 ghost use Rattle.std.specs.Options.{Cases};
 ghost use Rattle.lasso.specs.Lassos.{stateAt, afterRounds, Endless};
 use super::super::time::Instant;
@@ -56,6 +56,7 @@ impl Shape {
         State(self.state_at(instant.0))
     }
 
+    // The law of folding, over endless time.
     fn state_at(self, i: usize) -> usize
         ensures value { λ r. ⌜ r ≡ stateAt (self .states) (self .«loop_start») i ⌝ }
         ensures inside { λ r. ⌜ r < self .states ⌝ }

@@ -1,7 +1,7 @@
 ghost use mathlib.Core.Path.{_≡_};
 ghost use mathlib.Core.Bool.{true};
-ghost use mathlib.Core.List.{List, []};
-ghost use Prim.Native.Nat.{ℕ, _+_, _<_, _≤_};
+ghost use mathlib.Core.List.{[]};
+ghost use Prim.Native.Nat.{_+_, _<_, _≤_};
 ghost use denote.Ref.{now as held};
 ghost use lib.ListN.{length, take};
 ghost use Rattle.std.specs.Results.{Cases, isOk};
@@ -9,10 +9,10 @@ ghost use Rattle.std.specs.Vec.{made};
 ghost use Rattle.std.specs.declared.result.Result.the-variants.{Ok, Err};
 ghost use Rattle.lasso.specs.declared.value.Value.the-variants.{Open};
 ghost use Rattle.numbers.specs.Lists.{list, lists};
-ghost use Rattle.source.specs.Meanings.{Meaning, Kept, Means};
+ghost use Rattle.source.specs.Meanings.{Kept};
 ghost use Rattle.log.specs.Logs.{placeOf, heading as headingOf, parse, said};
 ghost use Rattle.log.specs.Meanings.{latestOf, known, logMeaning};
-ghost use Rattle.log.specs.Told.{afterMarks, Accepted, Refused, IsRead};
+ghost use Rattle.log.specs.Told.{afterMarks, Refused, IsRead};
 ghost use Rattle.log.specs.Heads.{headingAs, MarksTo, Headed};
 use super::super::marks::Told;
 use super::super::marks::read_marks;
@@ -37,6 +37,7 @@ struct Header {
     next: usize,
 }
 
+// Reads what comes before the marks.
 fn read_header(bytes: &[u8]) -> Result<Header, Fault>
     ensures value { λ r. ⌜ Cases r (λ h. headingOf (now (bytes .entry)) ≡ Ok (headingAs h)) (λ f. headingOf (now (bytes .entry)) ≡ Err f) ⌝ }
     ensures limits { λ r. ⌜ made r (λ h. (h .places ≤ 768) × (h .instants ≤ 16) × (h .next ≤ length (now (bytes .entry)))) ⌝ }
@@ -81,6 +82,7 @@ fn parsed(bytes: &[u8]) -> Result<(), Fault>
     Ok(())
 }
 
+// What it means that bytes are a log, or are none.
 fn checked(bytes: &[u8]) -> Result<(), Fault>
     ensures { λ r. ⌜ Cases r (λ _. IsRead (now (bytes .entry))) (λ f. Refused (now (bytes .entry)) f) ⌝ }
 {

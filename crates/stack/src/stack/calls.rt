@@ -1,8 +1,8 @@
 ghost use mathlib.Core.Path.{_≡_};
 ghost use mathlib.Core.Bool.{true, false};
-ghost use mathlib.Core.List.{List, []};
+ghost use mathlib.Core.List.{[]};
 ghost use denote.Ref.{name};
-ghost use Prim.Native.Nat.{ℕ, _<_, _≤_};
+ghost use Prim.Native.Nat.{_<_};
 ghost use lib.ListN.{length};
 ghost use Rattle.std.specs.Options.{Cases};
 ghost use Rattle.stack.specs.Stacks.{entries, Pushed, Full, Popped, Empty, TopIs};
@@ -68,6 +68,7 @@ impl<'a, T: Copy> Stack<'a, T> {
     }
 }
 
+// As many as there are entries.
 fn counted<T>(stack: &Stack<'_, T>) -> usize
     ensures count { λ r. ⌜ r ≡ now (stack .entry) .count ⌝ }
     ensures value { λ r. ⌜ r ≡ length (entries (now (stack .entry))) ⌝ }
@@ -75,6 +76,7 @@ fn counted<T>(stack: &Stack<'_, T>) -> usize
     stack.count
 }
 
+// Puts an entry on top where there is room.
 fn put<T: Copy>(stack: &mut Stack<'_, T>, entry: T)
     requires { ⌜ now stack .count < length (now (now stack .items)) ⌝ }
     ensures put { λ _. ⌜ Pushed (now (stack .entry)) entry (now (stack .exit)) ⌝ }
@@ -85,6 +87,7 @@ fn put<T: Copy>(stack: &mut Stack<'_, T>, entry: T)
     stack.count = at + 1;
 }
 
+// Takes the top off where there is one.
 fn take_off<T: Copy>(stack: &mut Stack<'_, T>) -> T
     requires { ⌜ 0 < now stack .count ⌝ }
     ensures value { λ r. ⌜ Popped (now (stack .entry)) r (now (stack .exit)) ⌝ }
@@ -95,6 +98,7 @@ fn take_off<T: Copy>(stack: &mut Stack<'_, T>) -> T
     stack.items[at]
 }
 
+// The top where there is one.
 fn last<T: Copy>(stack: &Stack<'_, T>) -> T
     requires { ⌜ 0 < now stack .count ⌝ }
     ensures { λ r. ⌜ TopIs (now (stack .entry)) r ⌝ }

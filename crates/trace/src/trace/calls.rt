@@ -105,6 +105,7 @@ impl Trace {
     }
 }
 
+// Whether this is a trace: the limits, nothing outside the counts, fewest states.
 fn is_trace(places: usize, shape: Shape, held: &Table) -> bool
     ensures value { λ r. ⌜ Decides r (IsTrace places shape (now (held .entry))) ⌝ }
     ensures wide { λ r. ⌜ (r ≡ true → Wide (now (held .entry))) ⌝ }
@@ -134,6 +135,7 @@ fn same_fields(a: &Trace, b: &Trace) -> bool
     a.places == b.places && a.shape == b.shape && same_table(&a.held, &b.held)
 }
 
+// One trace for each behaviour.
 fn same_trace(a: &Trace, b: &Trace) -> bool
     ensures exact { λ r. ⌜ Decides r (SameBehaviour (now (a .entry)) (now (b .entry))) ⌝ }
     ensures one { λ r. ⌜ Decides r (now (a .entry) ≡ now (b .entry)) ⌝ }

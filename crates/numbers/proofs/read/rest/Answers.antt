@@ -1,5 +1,5 @@
 use native.Mathlib.Omega.{arith}
-use mathlib.Core.Path.{_≡_, sym, ap, _∙_}
+use mathlib.Core.Path.{sym, ap, _∙_}
 use lib.ListN.{length, length-drop}
 use Rattle.std.proofs.shelf.Lists.{drop-all, take-rest}
 use Rattle.numbers.proofs.read.rest.Needs as need

@@ -1,6 +1,6 @@
 use native.Mathlib.Omega.{arith}
-use Prim.Native.Nat.{_-_, _+_, _≤_, _<_}
-use mathlib.Core.Path.{_≡_, refl, sym, ap, _∙_}
+use Prim.Native.Nat.{_-_, _+_, _<_}
+use mathlib.Core.Path.{_≡_, sym, ap, _∙_}
 use mathlib.Core.Bool.{false}
 use mathlib.Core.List.{[], _∷_, _++_}
 use lib.ListN.{length, replicate}
@@ -9,7 +9,7 @@ use Rattle.numbers.specs.Lists.{entries}
 use Rattle.numbers.proofs.Lists.{entries-got, entries-err, entries-done, list-got}
 use Rattle.record.specs.Records.{itself, helds}
 use Rattle.record.proofs.Rows.{helds-blank}
-use Rattle.record.proofs.Taken.{Blank, blank-set, helds-set}
+use Rattle.record.proofs.Taken.{blank-set, helds-set}
 use Rattle.record.proofs.read.read_state.Needs as need
 
 pub loop-done-holds : need.loop-done-holds

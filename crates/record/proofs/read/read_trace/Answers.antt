@@ -9,7 +9,8 @@ use Rattle.record.proofs.read.read_trace.Needs as need
 pub returns-in-Break-lasso : need.returns-in-Break-lasso
 returns-in-Break-lasso c =
     let p = err-from-errBy (c .from-residual .result) (c .from-residual .ensures .1) in
-    rw (p .1, p .2) (refused-reading (c .args .bytes .now) _ (c .in-Break-lasso .ensures tt))
+    let bytes : Bytes (c .args .bytes .now) = λ i. omega (arith, c .typed .bytes i) in
+    rw (p .1, p .2) (refused-reading (c .args .bytes .now) _ bytes (c .in-Break-lasso .ensures tt))
 
 pub returns-in-Some : need.returns-in-Some
 returns-in-Some c =

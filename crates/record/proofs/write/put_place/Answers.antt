@@ -1,10 +1,10 @@
 use native.Mathlib.Omega.{arith}
-use mathlib.Core.Path.{_≡_, refl, sym, ap, _∙_}
-use Prim.Native.Nat.{_+_, _<_, _≤_}
+use mathlib.Core.Path.{refl, sym, ap, _∙_}
+use Prim.Native.Nat.{_+_, _≤_}
 use lib.ListN.{length, length-take, length-drop}
 use borrow.Author.Needs.{needs}
 use Rattle.numbers.specs.Numbers.{encode}
-use Rattle.record.specs.Writing.{front, So-far}
+use Rattle.record.specs.Writing.{front}
 use Rattle.record.proofs.Rows.{front-le, front-held, front-not, length-front-held}
 use Rattle.record.proofs.Written.{so-far-then, so-far-as}
 use Rattle.record.proofs.write.put_place.Needs as need

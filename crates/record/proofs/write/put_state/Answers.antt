@@ -1,9 +1,8 @@
 use native.Mathlib.Omega.{arith}
-use mathlib.Core.Path.{_≡_, refl, sym, ap, _∙_}
+use mathlib.Core.Path.{_≡_, sym, ap, _∙_}
 use mathlib.Core.List.{append-nil}
-use Prim.Native.Nat.{ℕ}
 use lib.ListN.{length}
-use Rattle.numbers.specs.Numbers.{encode, over}
+use Rattle.numbers.specs.Numbers.{encode}
 use Rattle.record.specs.Records.{helds}
 use Rattle.record.specs.Writing.{state-of, front, So-far}
 use Rattle.record.proofs.Rows.{front-all}

@@ -1,13 +1,11 @@
 use native.Mathlib.Omega.{arith}
-use mathlib.Core.Path.{_≡_, refl, sym, ap, _∙_}
-use mathlib.Core.Bool.{Bool}
-use mathlib.Core.List.{List, []}
-use Prim.Native.Nat.{ℕ, _+_, _-_, _<_, _≤_}
-use lib.ListN.{length, getD, take, drop, length-take, length-drop}
+use mathlib.Core.Path.{_≡_, refl, ap}
+use mathlib.Core.List.{[]}
+use Prim.Native.Nat.{_+_, _-_, _<_, _≤_}
+use lib.ListN.{length, getD, length-take, length-drop}
 use borrow.Author.Needs.{needs}
 use Rattle.record.specs.Writing.{state-of}
 use Rattle.record.proofs.Written.{so-far-then, so-far-as, up-to, up-to-more, up-to-le, up-to-room}
-use Rattle.record.specs.Writing.{So-far}
 use Rattle.record.proofs.write.put_states.Needs as need
 
 pub part-put-state-count : need.part-put-state-count

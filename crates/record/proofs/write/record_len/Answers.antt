@@ -1,12 +1,12 @@
 use native.Mathlib.Omega.{arith}
 use native.Mathlib.Nat.{add-assoc}
 use mathlib.Core.Path.{_≡_, sym, ap, _∙_}
-use mathlib.Core.List.{[], _++_}
-use Prim.Native.Nat.{_+_, _<_, _≤_}
+use mathlib.Core.List.{[]}
+use Prim.Native.Nat.{_+_, _<_}
 use lib.ListN.{length, getD, length-append}
 use Rattle.record.specs.Records.{header}
 use Rattle.record.specs.Writing.{state-of}
-use Rattle.record.proofs.Written.{part, part-more, up-to, up-to-le, record-bound}
+use Rattle.record.proofs.Written.{part, part-more, up-to-le, record-bound}
 use Rattle.record.proofs.write.record_len.Needs as need
 
 more : (c : need.After-state-len-len) → length (part (c .args .trace .now .held) (c .loop-s .s + 1)) ≡ length (part (c .args .trace .now .held) (c .loop-s .s)) + c .state-len-len .result

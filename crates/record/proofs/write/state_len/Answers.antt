@@ -1,8 +1,8 @@
 use native.Mathlib.Omega.{arith}
-use mathlib.Core.Path.{_≡_, sym, ap, _∙_}
+use mathlib.Core.Path.{sym, ap, _∙_}
 use Prim.Native.Nat.{_+_, _<_}
 use lib.ListN.{length}
-use Rattle.record.proofs.Rows.{front-le, front-all, state-bound, length-encode, length-front-held, front-not}
+use Rattle.record.proofs.Rows.{front-le, front-all, state-bound, length-front-held, front-not}
 use Rattle.record.specs.Writing.{front}
 use Rattle.record.proofs.write.state_len.Needs as need
 use Rattle.record.proofs.write.state_len.Needs.{then-row-p, else-row-p}

@@ -1,4 +1,3 @@
-use native.Mathlib.Omega.{arith}
 use Rattle.std.proofs.shelf.Ways.{decides-like}
 use Rattle.lasso.proofs.Rounds.{enough}
 use Rattle.trace.specs.Tables.{holds}

@@ -1,5 +1,4 @@
 use native.Mathlib.Omega.{arith}
-use Prim.Native.Nat.{ℕ}
 use mathlib.Core.Path.{_≡_, _∙_}
 use Rattle.lasso.specs.Lassos.{stateAt}
 use Rattle.lasso.proofs.Folds.{rounds-stateAt, stateAt-below, endless}

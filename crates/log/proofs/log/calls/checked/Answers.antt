@@ -8,4 +8,4 @@ pub returns : need.returns
 returns c =
     let bs = c .args .bytes .now in
     let bytes : Bytes bs = λ i. omega (arith, c .typed .bytes i) in
-    cases-weaker (c .parsed .result) (c .parsed .ensures) (λ _ ok. is-read bs bytes ok) (λ f e. is-refused bs f e)
+    cases-weaker (c .parsed .result) (c .parsed .ensures) (λ _ ok. is-read bs bytes ok) (λ f e. is-refused bs f bytes e)

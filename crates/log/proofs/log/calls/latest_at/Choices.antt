@@ -1,6 +1,6 @@
-use Prim.Native.Nat.{_-_, _≤_}
+use Prim.Native.Nat.{_-_}
 use mathlib.Core.Path.{_≡_}
-use lib.ListN.{length, take}
+use lib.ListN.{take}
 use Rattle.lasso.specs.declared.value.Value.the-variants.{Open}
 use Rattle.log.specs.Logs.{said}
 use Rattle.log.specs.Meanings.{latestOf}
