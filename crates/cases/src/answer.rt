@@ -1,3 +1,11 @@
+ghost use mathlib.Core.Path.{_≡_};
+ghost use mathlib.Core.List.{List};
+ghost use Prim.Native.Nat.{ℕ};
+ghost use Rattle.std.specs.Orderings.{Decides};
+ghost use Rattle.std.specs.Vec.{made};
+ghost use Rattle.cases.specs.Hex.{Hex};
+ghost use Rattle.cases.specs.Lines.{Cut};
+ghost use Rattle.cases.specs.Answers.{ToRecord, ToLog, IsKind, Answers};
 use super::hex::bytes_of;
 use super::lines::cut;
 use faults::Fault;
@@ -25,20 +33,59 @@ pub enum Answer {
     Unknown,
 }
 
+// The kind of a case.
+#[derive(Clone, Copy)]
+enum Kind {
+    Record,
+    Log,
+    Other,
+}
+
 impl Answer {
     // The answer to a line: its first word says the kind of case.
-    pub fn to(line: &[u8], heap: Global) -> Result<Answer, AllocError> {
-        let (kind, text) = cut(line, b' ');
-        match kind {
-            b"record" => to_record(text, heap),
-            b"log" => to_log(text, heap),
-            _ => Ok(Answer::Unknown),
-        }
+    pub fn to(line: &[u8], heap: Global) -> Result<Answer, AllocError>
+        ensures { λ r. ⌜ made r (λ a. (word : List ℕ) × (text : List ℕ) × Cut (now (line .entry)) 32 word text × Answers word text a) ⌝ }
+    {
+        let (word, text) = cut(line, b' ');
+        to_case(word, text, heap)
     }
 }
 
+// The answer to a case of a kind.
+fn to_case(word: &[u8], text: &[u8], heap: Global) -> Result<Answer, AllocError>
+    ensures { λ r. ⌜ made r (λ a. Answers (now (word .entry)) (now (text .entry)) a) ⌝ }
+{
+    match kind_of(word) {
+        Kind::Record => to_record(text, heap),
+        Kind::Log => to_log(text, heap),
+        Kind::Other => Ok(Answer::Unknown),
+    }
+}
+
+// The kind of a case, by its first word.
+fn kind_of(word: &[u8]) -> Kind
+    ensures { λ r. ⌜ IsKind (now (word .entry)) r ⌝ }
+{
+    if is_word(word, b"record") {
+        return Kind::Record;
+    }
+    if is_word(word, b"log") {
+        return Kind::Log;
+    }
+    Kind::Other
+}
+
+// Whether two words are the same.
+fn is_word(word: &[u8], other: &[u8]) -> bool
+    ensures { λ r. ⌜ Decides r (now (word .entry) ≡ now (other .entry)) ⌝ }
+{
+    word == other
+}
+
 // The answer to a record in hexadecimal.
-fn to_record(text: &[u8], heap: Global) -> Result<Answer, AllocError> {
+fn to_record(text: &[u8], heap: Global) -> Result<Answer, AllocError>
+    ensures { λ r. ⌜ made r (λ a. ToRecord (now (text .entry)) a) ⌝ }
+{
     let Some(bytes) = bytes_of(text, heap)? else {
         return Ok(Answer::Unknown);
     };
@@ -50,7 +97,9 @@ fn to_record(text: &[u8], heap: Global) -> Result<Answer, AllocError> {
 }
 
 // The answer to a log in hexadecimal.
-fn to_log(text: &[u8], heap: Global) -> Result<Answer, AllocError> {
+fn to_log(text: &[u8], heap: Global) -> Result<Answer, AllocError>
+    ensures { λ r. ⌜ made r (λ a. ToLog (now (text .entry)) a) ⌝ }
+{
     match bytes_of(text, heap)? {
         Some(bytes) => to_log_bytes(bytes.as_slice(), heap),
         None => Ok(Answer::Unknown),
@@ -58,7 +107,9 @@ fn to_log(text: &[u8], heap: Global) -> Result<Answer, AllocError> {
 }
 
 // The line is made here, since an answer cannot borrow the bytes.
-fn to_log_bytes(bytes: &[u8], heap: Global) -> Result<Answer, AllocError> {
+fn to_log_bytes(bytes: &[u8], heap: Global) -> Result<Answer, AllocError>
+    ensures { λ r. ⌜ made r (λ a. (text : List ℕ) → Hex text (now (bytes .entry)) → ToLog text a) ⌝ }
+{
     let mut log = Log::fresh();
     match log.read(bytes) {
         Ok(()) => Ok(Answer::Known(known_line(&log, heap)?)),

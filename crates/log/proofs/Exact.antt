@@ -16,12 +16,12 @@ use Rattle.faults.specs.declared.Fault.{Fault}
 use Rattle.faults.specs.declared.Fault.the-variants.{OutsideLimits, PlaceOutOfOrder}
 use Rattle.lasso.specs.declared.value.Value.the-variants.{Open}
 use Rattle.numbers.specs.declared.read.Number.{Number}
-use Rattle.numbers.specs.Numbers.{limit, encode, andThen, readAt, within, edition, Bytes}
+use Rattle.numbers.specs.Numbers.{most-bytes, limit, encode, andThen, readAt, within, edition, Bytes}
 use Rattle.numbers.specs.Lists.{Read, read, entry, entries, list, lists, list-bytes, Ascends, Good}
 use Rattle.numbers.proofs.ListsSound.{never, ok-inj, then-inv, cond-inv, edition-sound, within-sound, lists-sound}
 use Rattle.numbers.proofs.ListsComplete.{number, skip, within-complete, edition-complete, lists-complete}
 use Rattle.source.proofs.Paths.{first-means}
-use Rattle.log.specs.Logs.{placeOf, most-bytes, Said, Heading, heading, ended, parse, saidBy, said, IsLog, log-of}
+use Rattle.log.specs.Logs.{placeOf, Said, Heading, heading, ended, parse, saidBy, said, IsLog, log-of}
 use Rattle.log.specs.Meanings.{latestOf}
 use Rattle.log.specs.Told.{Refused, IsRead}
 use Rattle.log.proofs.Parses.{parse-inv, ok-of}

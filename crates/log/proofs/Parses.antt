@@ -13,6 +13,7 @@ use Rattle.std.specs.declared.result.Result.the-variants.{Ok, Err}
 use Rattle.std.proofs.shelf.Lists.{length-push, take-at}
 use Rattle.std.proofs.shelf.Tests.{cond-false, and-left, and-right, le-ltb, ltb-false, false≢true}
 use Rattle.faults.specs.declared.Fault.{Fault}
+use Rattle.numbers.specs.Numbers.{most-bytes}
 use Rattle.faults.specs.declared.Fault.the-variants.{BytesLeftOver, TooManyBytes}
 use Rattle.lasso.specs.declared.value.Value.{Value}
 use Rattle.lasso.specs.declared.value.Value.the-variants.{Open}
@@ -22,7 +23,7 @@ use Rattle.numbers.proofs.Lists.{lists-got, lists-err}
 use Rattle.numbers.proofs.ListsSound.{never, ok-inj, then-inv, cond-out}
 use Rattle.log.specs.declared.marks.Told.{Told}
 use Rattle.log.specs.declared.log.calls.Header.{Header}
-use Rattle.log.specs.Logs.{placeOf, most-bytes, Said, Heading, heading, parse, saidBy, said}
+use Rattle.log.specs.Logs.{placeOf, Said, Heading, heading, parse, saidBy, said}
 use Rattle.log.specs.Meanings.{latest, latestOf, logMeaning}
 use Rattle.log.specs.Told.{told, afterMarks}
 use Rattle.log.specs.Heads.{headingAs, Headed}

@@ -10,11 +10,8 @@ use Rattle.std.specs.declared.result.Result.{Result}
 use Rattle.std.specs.declared.result.Result.the-variants.{Ok, Err}
 use Rattle.faults.specs.declared.Fault.{Fault}
 use Rattle.faults.specs.declared.Fault.the-variants.{BytesLeftOver, TooManyBytes}
-use Rattle.numbers.specs.Numbers.{encode, andThen, within, edition}
+use Rattle.numbers.specs.Numbers.{most-bytes, encode, andThen, within, edition}
 use Rattle.numbers.specs.Lists.{Read, lists, list-bytes, Good}
-
-abbrev pub most-bytes : ℕ
-most-bytes = 32768
 
 abbrev pub most-instants : ℕ
 most-instants = 16

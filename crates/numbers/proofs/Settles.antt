@@ -11,17 +11,17 @@ use Rattle.std.specs.declared.result.Result.{Result}
 use Rattle.std.specs.declared.result.Result.the-variants.{Ok, Err}
 use Rattle.std.proofs.shelf.Lists.{drop-take, take-take}
 use Rattle.std.proofs.shelf.Results.{cases-at-ok}
-use Rattle.std.proofs.shelf.Tests.{false≢true}
+use Rattle.std.proofs.shelf.Tests.{cases-lt, cond-true, cond-false, lt-ltb, le-ltb, false≢true}
 use Rattle.std.proofs.shelf.Ways.{tells}
 use Rattle.faults.specs.declared.Fault.{Fault}
-use Rattle.faults.specs.declared.Fault.the-variants.{EndsEarly, NotShortest, UnknownEdition, OutsideLimits, PlaceOutOfOrder}
+use Rattle.faults.specs.declared.Fault.the-variants.{EndsEarly, NotShortest, UnknownEdition, OutsideLimits, PlaceOutOfOrder, BytesLeftOver, TooManyBytes}
 use Rattle.faults.specs.Table as table
 use Rattle.numbers.specs.declared.read.Number.{Number}
 use Rattle.numbers.specs.declared.read.First.{First}
 use Rattle.numbers.specs.declared.read.First.the-variants.{Number as FirstNumber, Ended, NotShortest as FirstWrong}
-use Rattle.numbers.specs.Numbers.{encode, first, placed, andThen, readAt, within, edition, Bytes, Stands, Refuses}
+use Rattle.numbers.specs.Numbers.{most-bytes, encode, first, placed, andThen, readAt, within, edition, Bytes, Stands, Refuses}
 use Rattle.numbers.specs.Lists.{Read, read, entry, entries, list, lists}
-use Rattle.numbers.specs.Settled.{byNumber}
+use Rattle.numbers.specs.Settled.{byNumber, Settled}
 use Rattle.numbers.proofs.Laws.{read-exact}
 use Rattle.numbers.proofs.ListsSound.{ok-inj, then-inv, cond-inv}
 
@@ -225,3 +225,34 @@ module _ (bs : List ℕ) (bytes : Bytes bs) where
     lists-err (suc k) at rows x b e =
         chain (λ b. list f b n at) (λ b r. lists f b n k (r .next) (rows ++ r .got ∷ [])) (λ r. r .next) bs at x
         (list-err at x b) (list-ok at) (λ r _. lists-err k (r .next) (rows ++ r .got ∷ []) x b) e
+
+-- ---- a whole record or log: not too long, a header, lists, and nothing left
+module _ {H D : Type 0} (head : List ℕ → Result H Fault) (f : ℕ → ℕ) (places count next : H → ℕ) (gives : H → List (List ℕ) → D) where
+  abbrev left : List ℕ → H → Read (List (List ℕ)) → Result D Fault
+  left b h v = cond (ltb (v .next) (length b)) (Err (BytesLeftOver (v .next))) (Ok (gives h (v .got)))
+
+  abbrev rest : List ℕ → H → Result D Fault
+  rest b h = andThen (lists f b (places h) (count h) (next h) []) (λ v. left b h v)
+
+  abbrev whole : List ℕ → Result D Fault
+  whole b = cond (ltb most-bytes (length b)) (Err TooManyBytes) (andThen (head b) (λ h. rest b h))
+
+  module _ (bs : List ℕ) (bytes : Bytes bs) where
+    -- bytes left over are no number at fault
+    rest-err : (h : H) (x : Fault) → byNumber x ≡ true → rest bs h ≡ Err x → Fixed (λ b. rest b h) bs (next h) x
+    rest-err h x b e =
+        ⊎-elim
+        (λ wrong. let w = lists-err bs bytes f (places h) (count h) (next h) [] x b wrong in record { after = w .after; alike = λ other s. ap (λ r. andThen r (λ v. left other h v)) (w .alike other s) })
+        (λ w. absurd (false≢true (ap byNumber (left-err (ltb (w .0 .next) (length bs)) _ (BytesLeftOver (w .0 .next)) x (w .2)) ∙ b)))
+        (then-err (lists f bs (places h) (count h) (next h) []) (λ v. left bs h v) x e)
+
+    pub whole-settles : ((x : Fault) → byNumber x ≡ true → head bs ≡ Err x → Fixed head bs 0 x) → ((h : H) → head bs ≡ Ok h → Same head bs 0 (next h) h) → (x : Fault)
+        → cond (ltb most-bytes (length bs)) (Err TooManyBytes) (andThen (head bs) (λ h. rest bs h)) ≡ Err x → Settled whole bs x
+    whole-settles wrong right x e b other short s =
+        ⊎-elim
+        (λ (long : most-bytes < length bs).
+        absurd (false≢true (ap byNumber (err-inj {B = D} TooManyBytes x (sym (cond-true (ltb most-bytes (length bs)) _ _ (lt-ltb most-bytes (length bs) long)) ∙ e)) ∙ b)))
+        (λ (fits : length bs ≤ most-bytes).
+        let r = chain head (λ b h. rest b h) next bs 0 x (wrong x b) right (λ h _. rest-err h x b) (sym (cond-false (ltb most-bytes (length bs)) _ _ (le-ltb most-bytes (length bs) fits)) ∙ e) in
+        cond-false (ltb most-bytes (length other)) _ _ (le-ltb most-bytes (length other) short) ∙ r .alike other s)
+        (cases-lt most-bytes (length bs))

@@ -13,6 +13,10 @@ use Rattle.numbers.specs.declared.read.Number.{Number}
 use Rattle.numbers.specs.declared.read.First.{First}
 use Rattle.numbers.specs.declared.read.First.the-variants.{Number as FirstNumber, Ended, NotShortest as FirstWrong}
 
+-- the most bytes of a record or a log
+abbrev pub most-bytes : ℕ
+most-bytes = 32768
+
 -- one number more than can be written
 abbrev pub limit : ℕ
 limit = 2 ^ 21

@@ -2,6 +2,7 @@
 mod read;
 mod write;
 
+pub use read::MOST_BYTES;
 pub use read::Number;
 pub use read::read_edition;
 pub use read::read_number;

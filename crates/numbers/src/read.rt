@@ -6,6 +6,9 @@ ghost use Rattle.std.specs.Vec.{made};
 ghost use Rattle.numbers.specs.Numbers.{first, Inside, readAt, within, edition, Stands, Refuses};
 use faults::Fault;
 
+// The most bytes of a record or a log.
+pub const MOST_BYTES: usize = 32_768;
+
 // A number that was read, and the index of the byte after it.
 #[derive(Clone, Copy)]
 pub struct Number {

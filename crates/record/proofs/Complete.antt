@@ -14,12 +14,12 @@ use Rattle.std.proofs.shelf.Tests.{cases-lt, cond-true, cond-false, lt-ltb, le-
 use Rattle.faults.specs.declared.Fault.the-variants.{OutsideLimits}
 use Rattle.trace.specs.declared.trace.Trace.{Trace}
 use Rattle.trace.specs.Tables.{Empty}
-use Rattle.numbers.specs.Numbers.{limit, encode, andThen, readAt, within, edition}
+use Rattle.numbers.specs.Numbers.{most-bytes, limit, encode, andThen, readAt, within, edition}
 use Rattle.numbers.specs.Lists.{read, lists, list-bytes, Ascends, Good}
 use Rattle.numbers.proofs.Lists.{ascends-high}
 use Rattle.numbers.proofs.ListsComplete.{number, skip, number-complete, within-complete, edition-complete, lists-complete}
 use Rattle.record.specs.Records.{itself, helds, said, header, record-of}
-use Rattle.record.specs.Reading.{most-bytes, Heading, loopStart, heading, ended, parse}
+use Rattle.record.specs.Reading.{Heading, loopStart, heading, ended, parse}
 use Rattle.record.proofs.Rows.{length-helds, helds-front, helds-ascend}
 use Rattle.record.proofs.Written.{record-bound}
 

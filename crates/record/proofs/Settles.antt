@@ -1,22 +1,18 @@
 -- A number at fault settles the refusal of a record.
-use Prim.Native.Nat.{ℕ, _<_, _≤_}
-use mathlib.Core.Path.{_≡_, refl, sym, ap, subst, _∙_}
-use mathlib.Core.Bool.{true, false}
-use mathlib.Core.List.{List, []}
-use mathlib.Core.Logic.{⊎-elim}
-use lib.ListN.{length}
+use Prim.Native.Nat.{ℕ}
+use mathlib.Core.Path.{_≡_, refl, ap, subst}
+use mathlib.Core.Bool.{true}
+use mathlib.Core.List.{List}
 use lib.Dec.{ltb}
 use Rattle.std.specs.declared.result.Result.the-variants.{Ok, Err}
-use Rattle.std.proofs.shelf.Tests.{cond-true, cond-false, lt-ltb, le-ltb, cases-lt, false≢true}
 use Rattle.faults.specs.declared.Fault.{Fault}
-use Rattle.faults.specs.declared.Fault.the-variants.{OutsideLimits, BytesLeftOver, TooManyBytes}
+use Rattle.faults.specs.declared.Fault.the-variants.{OutsideLimits}
 use Rattle.numbers.specs.declared.read.Number.{Number}
 use Rattle.numbers.specs.Numbers.{andThen, within, edition, Bytes}
-use Rattle.numbers.specs.Lists.{lists}
 use Rattle.numbers.specs.Settled.{byNumber, Settled}
-use Rattle.numbers.proofs.Settles.{Fixed, Same, chain, chain-ok, then-err, left-err, err-inj, tested-err, tested-ok, within-err, within-ok, edition-err, edition-ok, lists-err}
-use Rattle.record.specs.Records.{Said, itself}
-use Rattle.record.specs.Reading.{most-bytes, Heading, loopStart, heading, ended, parse}
+use Rattle.numbers.proofs.Settles.{Fixed, Same, chain, chain-ok, tested-err, tested-ok, within-err, within-ok, edition-err, edition-ok, whole-settles}
+use Rattle.record.specs.Records.{itself}
+use Rattle.record.specs.Reading.{Heading, loopStart, heading, parse}
 
 module _ (bs : List ℕ) (bytes : Bytes bs) where
   abbrev with-start : ℕ → ℕ → Number → Heading
@@ -48,25 +44,5 @@ module _ (bs : List ℕ) (bytes : Bytes bs) where
       chain-ok (λ b. within b (n .next) 1 8) (λ b k. loopStart b (n .value) (k .value) (k .next)) (λ k. k .next) bs (n .next) h (h .next)
       (within-ok bs bytes (n .next) 1 8) (λ k. start-ok (n .value) (k .value) (k .next) h)))
 
-  -- bytes left over are no number at fault
-  states-err : (h : Heading) (x : Fault) → byNumber x ≡ true → andThen (lists itself bs (h .places) (h .states) (h .next) []) (λ v. ended bs h v) ≡ Err x
-      → Fixed (λ b. andThen (lists itself b (h .places) (h .states) (h .next) []) (λ v. ended b h v)) bs (h .next) x
-  states-err h x b e =
-      ⊎-elim
-      (λ wrong. let w = lists-err bs bytes itself (h .places) (h .states) (h .next) [] x b wrong in record { after = w .after; alike = λ other s. ap (λ r. andThen r (λ v. ended other h v)) (w .alike other s) })
-      (λ w. absurd (false≢true (ap byNumber (left-err (ltb (w .0 .next) (length bs)) _ (BytesLeftOver (w .0 .next)) x (w .2)) ∙ b)))
-      (then-err (lists itself bs (h .places) (h .states) (h .next) []) (λ v. ended bs h v) x e)
-
-  rest-err : (x : Fault) → byNumber x ≡ true → andThen (heading bs) (λ h. andThen (lists itself bs (h .places) (h .states) (h .next) []) (λ v. ended bs h v)) ≡ Err x
-      → Fixed (λ b. andThen (heading b) (λ h. andThen (lists itself b (h .places) (h .states) (h .next) []) (λ v. ended b h v))) bs 0 x
-  rest-err x b = chain heading (λ b h. andThen (lists itself b (h .places) (h .states) (h .next) []) (λ v. ended b h v)) (λ h. h .next) bs 0 x (heading-err x b) heading-ok (λ h _. states-err h x b)
-
   pub settles : (x : Fault) → parse bs ≡ Err x → Settled parse bs x
-  settles x e b other short s =
-      ⊎-elim
-      (λ (long : most-bytes < length bs).
-      absurd (false≢true (ap byNumber (err-inj {B = Said} TooManyBytes x (sym (cond-true (ltb most-bytes (length bs)) _ _ (lt-ltb most-bytes (length bs) long)) ∙ e)) ∙ b)))
-      (λ (fits : length bs ≤ most-bytes).
-      let r = rest-err x b (sym (cond-false (ltb most-bytes (length bs)) _ _ (le-ltb most-bytes (length bs) fits)) ∙ e) in
-      cond-false (ltb most-bytes (length other)) _ _ (le-ltb most-bytes (length other) short) ∙ r .alike other s)
-      (cases-lt most-bytes (length bs))
+  settles = whole-settles heading itself (λ h. h .places) (λ h. h .states) (λ h. h .next) (λ h rows. record { places = h .places; states = h .states; start = h .start; rows = rows }) bs bytes heading-err heading-ok

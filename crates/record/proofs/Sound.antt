@@ -9,11 +9,11 @@ use Rattle.std.specs.declared.result.Result.the-variants.{Ok}
 use Rattle.std.proofs.shelf.Lists.{drop-all}
 use Rattle.std.proofs.shelf.Tests.{ltb-false}
 use Rattle.faults.specs.declared.Fault.the-variants.{OutsideLimits, BytesLeftOver, TooManyBytes}
-use Rattle.numbers.specs.Numbers.{encode, readAt, within, edition, Bytes}
+use Rattle.numbers.specs.Numbers.{most-bytes, encode, readAt, within, edition, Bytes}
 use Rattle.numbers.specs.Lists.{lists, list-bytes}
 use Rattle.numbers.proofs.ListsSound.{ok-inj, then-inv, cond-inv, cond-out, number-sound, within-sound, edition-sound, lists-sound}
 use Rattle.record.specs.Records.{itself, Said, header, record-of}
-use Rattle.record.specs.Reading.{most-bytes, Heading, heading, parse}
+use Rattle.record.specs.Reading.{Heading, heading, parse}
 
 glue : (e n k l d : List ℕ) → e ++ (n ++ (k ++ (l ++ d))) ≡ (e ++ (n ++ (k ++ l))) ++ d
 glue e n k l d = simp append-assoc

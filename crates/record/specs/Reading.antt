@@ -13,13 +13,10 @@ use Rattle.faults.specs.declared.Fault.the-variants.{OutsideLimits, BytesLeftOv
 use Rattle.lasso.specs.Lassos.{Fewest}
 use Rattle.trace.specs.declared.trace.Trace.{Trace}
 use Rattle.trace.specs.Tables.{most-places, most-states}
-use Rattle.numbers.specs.Numbers.{andThen, readAt, within, edition, over, Bytes}
+use Rattle.numbers.specs.Numbers.{most-bytes, andThen, readAt, within, edition, over, Bytes}
 use Rattle.numbers.specs.Lists.{Read, lists}
 use Rattle.numbers.specs.Settled.{Settled}
 use Rattle.record.specs.Records.{itself, Said, said, record-of, holdsBy}
-
-abbrev pub most-bytes : ℕ
-most-bytes = 32768
 
 -- what comes before the states
 pub record Heading : Type 0 where

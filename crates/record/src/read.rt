@@ -14,6 +14,7 @@ ghost use Rattle.record.specs.Lassos.{sayingOf, headingAs, Fits};
 use faults::Fault;
 use lasso::Shape;
 use lasso::State;
+use numbers::MOST_BYTES;
 use numbers::Number;
 use numbers::read_edition;
 use numbers::read_number;
@@ -23,9 +24,6 @@ use trace::MOST_STATES;
 use trace::Table;
 use trace::Trace;
 use trace::blank;
-
-// The most bytes of a record.
-const MOST_BYTES: usize = 32_768;
 
 // What comes before the states, and the index of the byte after it.
 #[derive(Clone, Copy)]

@@ -5,9 +5,7 @@ use mathlib.Core.Logic.{_⊎_}
 use Rattle.lasso.specs.declared.value.Value.{Value}
 use Rattle.lasso.specs.declared.value.Value.the-variants.{Open}
 use Rattle.lasso.specs.Lassos.{stateAt}
-
-abbrev pub most-places : ℕ
-most-places = 768
+use Rattle.trace.specs.Tables.{most-places}
 
 abbrev pub most-states : ℕ
 most-states = 17

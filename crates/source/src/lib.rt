@@ -15,9 +15,7 @@ pub use first::PrefixSource;
 use lasso::State;
 use lasso::Value;
 pub use of_trace::TraceSource;
-
-// The most places of a source.
-pub const MOST_PLACES: usize = 768;
+pub use trace::MOST_PLACES;
 
 // What is known of a behaviour: a lasso of three values a place.
 pub trait Source {

@@ -20,14 +20,12 @@ use super::Log;
 use faults::Fault;
 use lasso::State;
 use lasso::Value;
+use numbers::MOST_BYTES;
 use numbers::read_edition;
 use numbers::read_within;
 use source::MOST_INSTANTS;
 use source::MOST_PLACES;
 use source::Source;
-
-// The most bytes of a log.
-const MOST_BYTES: usize = 32_768;
 
 // What comes before the marks, and the index of the byte after it.
 #[derive(Clone, Copy)]
