@@ -150,7 +150,7 @@ fn to_text(text: &[u8], heap: Global) -> Result<Answer, AllocError>
     match read(bytes.as_slice(), &mut problem, heap) {
         Ok(()) => Ok(Answer::Accepted),
         Err(Refusal::Fault(fault)) => Ok(Answer::Refused(fault)),
-        Err(Refusal::Memory) => Err(AllocError),
+        Err(Refusal::Memory(wanting)) => Err(wanting),
     }
 }
 
@@ -166,7 +166,7 @@ fn to_pair(text: &[u8], heap: Global) -> Result<Answer, AllocError>
     match read(bytes.as_slice(), &mut problem, heap) {
         Ok(()) => to_source(&problem, log, heap),
         Err(Refusal::Fault(fault)) => Ok(Answer::Judged(Judgement::TextRefused(fault))),
-        Err(Refusal::Memory) => Err(AllocError),
+        Err(Refusal::Memory(wanting)) => Err(wanting),
     }
 }
 

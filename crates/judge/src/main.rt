@@ -44,7 +44,7 @@ fn judge(rt: &HostRuntime, text: &[u8], problem: Problem) -> anyhow::Result<()> 
             rt.print(Refused { text, fault })?;
             Err(anyhow!("refused"))
         }
-        Err(Refusal::Memory) => want_of_memory(rt),
+        Err(Refusal::Memory(_)) => want_of_memory(rt),
     }
 }
 

@@ -81,7 +81,7 @@ Filled text before after (Err f) = (reading text ≡ Err f) × (after ≡ before
 abbrev pub Answered : List ℕ → Problem → Problem → Result (Unit {0}) Refusal → Type 0
 Answered text before after (Ok u) = reading text ≡ Ok (contents after)
 Answered text before after (Err (refusal.Fault f)) = (reading text ≡ Err f) × (after ≡ before)
-Answered text before after (Err refusal.Memory) = after ≡ before
+Answered text before after (Err (refusal.Memory w)) = after ≡ before
 
 abbrev pub refusing : Result (Unit {0}) Fault → Result (Unit {0}) Refusal
 refusing (Ok u) = Ok u

@@ -14,7 +14,7 @@ pub fn read(text: &[u8], problem: &mut Problem, heap: Global) -> Result<(), Refu
 {
     match Space::new(heap) {
         Ok(space) => refused(read_into(text, space, problem)),
-        Err(_) => Err(Refusal::Memory),
+        Err(wanting) => Err(Refusal::Memory(wanting)),
     }
 }
 

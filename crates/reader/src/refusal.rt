@@ -1,8 +1,9 @@
 use faults::Fault;
+use std::alloc::AllocError;
 
 // Why a text was not read: there is no memory for a problem, or the text is refused.
 #[derive(Clone, Copy)]
 pub enum Refusal {
-    Memory,
+    Memory(AllocError),
     Fault(Fault),
 }
