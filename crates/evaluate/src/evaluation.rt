@@ -1,7 +1,9 @@
 ghost use Rattle.std.specs.Prelude.{◌≡◌, ◌-◌, ◌≤◌, length};
 ghost use Rattle.problem.specs.Problems.{atoms_in, nodes_in, sorts_in};
 ghost use Rattle.meaning.specs.Meaning.{ValueIs};
-ghost use Rattle.meaning.specs.NodeLaws.{past_at};
+ghost use Rattle.meaning.specs.NodeLaws.{NodesStand, past_at};
+ghost use Rattle.meaning.specs.Laws.{AtMostOneValue, ValueOnLasso};
+ghost use Rattle.meaning.specs.TableLaws.{ExpressionsStand};
 ghost use Rattle.meaning.specs.Trees.{formula_in, no_variable};
 ghost use Rattle.meaning.specs.RowLaws.{window as window_of};
 ghost use Rattle.meaning.specs.Tables.{table_at};
@@ -18,7 +20,11 @@ use tuples::Atoms;
 
 // The value of a problem's formula at the first instant of the endless path of a table.
 pub fn evaluate(problem: &Problem, table: &Table) -> Value
-    ensures { ValueIs (length (atoms_in problem.now)) (path_of table.now) (formula_in problem.now) no_variable 0 result }
+    ensures value { ValueIs (length (atoms_in problem.now)) (path_of table.now) (formula_in problem.now) no_variable 0 result }
+    ensures single { AtMostOneValue }
+    ensures some { ValueOnLasso }
+    ensures tables { ExpressionsStand }
+    ensures nodes { NodesStand }
 {
     whole_row(problem, table).value(Instant(0))
 }

@@ -16,3 +16,4 @@ pub mod OnLassos
 pub mod Walks
 pub mod Beyond
 pub mod Nodes
+pub mod Laws

@@ -1,4 +1,2 @@
 //! What formulas mean over endless paths of three values, and the laws of that meaning.
 #![tactic(auto)]
-
-mod laws;

@@ -3,6 +3,7 @@
 
 ghost use Rattle.std.specs.Prelude.{MatchResult};
 ghost use Rattle.source.specs.Meanings.{Meaning};
+ghost use Rattle.meaning.specs.Laws.{Refinement, Settled};
 ghost use Rattle.table.specs.Tables.{Copied};
 ghost use Rattle.known.specs.Known.{Fits, Misfit};
 ghost use Rattle.verdict.specs.Verdicts.{Verdict};
@@ -17,7 +18,9 @@ use table::{Table, copied};
 
 // The formula's value on the path of what is known; or 19 or 20 if the source does not fit the problem.
 pub fn verdict<S: Source>(problem: &Problem, source: &S) -> Result<Value, Fault>
-    ensures { MatchResult result (λ v. Verdict problem.now (S.Source.meaning source.now) v) (λ f. Misfit problem.now (S.Source.meaning source.now) f) }
+    ensures answer { MatchResult result (λ v. Verdict problem.now (S.Source.meaning source.now) v) (λ f. Misfit problem.now (S.Source.meaning source.now) f) }
+    ensures filled { Refinement }
+    ensures settled { Settled }
 {
     judged(problem, &copied(source))
 }

@@ -1,5 +1,6 @@
 ghost use Rattle.std.specs.Prelude.{◌≡◌, ◌+◌, ◌-◌, ◌*◌, ◌<◌, ◌≤◌, MatchOption, IsSome};
-ghost use Rattle.meaning.specs.RowLaws.{FormulasStand, window};
+ghost use Rattle.meaning.specs.Laws.{OneRoundIsTooFew, Rounds};
+ghost use Rattle.meaning.specs.RowLaws.{FormulasStand, RowsRight, window};
 
 use super::{MOST_INSTANTS, Window};
 use lasso::Shape;
@@ -9,6 +10,9 @@ impl Window {
     pub fn of(shape: Shape, past: usize) -> Option<Window>
         ensures value { MatchOption result (85 < window shape.states shape.loop_start past) (λ w. (w.instants ≡ window shape.states shape.loop_start past) × (w.period ≡ shape.states - shape.loop_start)) }
         ensures fits { shape.states ≤ 17 → past ≤ 4 → IsSome result }
+        ensures again { Rounds }
+        ensures late { OneRoundIsTooFew }
+        ensures parts { RowsRight }
         ensures enough { FormulasStand }
     {
         if shape.states() > MOST_INSTANTS || past >= MOST_INSTANTS {

@@ -2,6 +2,8 @@ ghost use Rattle.std.specs.Prelude.{◌≡◌, ◌-◌, ◌<◌, ◌≤◌, true
 ghost use Rattle.lasso.specs.declared.value.Value.TheVariants.{No};
 ghost use Rattle.problem.specs.Sorts.{suits as suits_of, outcome as outcome_of};
 ghost use Rattle.meaning.specs.Tables.{TableIs, product_table, join_table, combined_table};
+ghost use Rattle.meaning.specs.Laws.{JoinAtAtoms, ProductAtAtoms};
+ghost use Rattle.meaning.specs.TableLaws.{TablesStand};
 ghost use Rattle.tuples.specs.Tabled.{table_of, Tabled};
 
 use super::super::atoms::Atoms;
@@ -16,6 +18,9 @@ impl Tuples {
     pub fn combined(&self, operator: Operator, other: &Tuples, atoms: Atoms) -> Tuples
         ensures suited { suits_of operator self.now.arity other.now.arity ≡ true → Tabled atoms.count (outcome_of operator self.now.arity other.now.arity) (combined_table operator atoms.count other.now.arity (table_of self.now) (table_of other.now)) result }
         ensures unsuited { suits_of operator self.now.arity other.now.arity ≡ false → Tabled atoms.count 1 (λ r. No) result }
+        ensures tables { TablesStand }
+        ensures join { JoinAtAtoms }
+        ensures product { ProductAtAtoms }
     {
         if !suits(operator, self.arity, other.arity) {
             return Tuples::blank();

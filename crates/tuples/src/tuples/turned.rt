@@ -2,6 +2,7 @@ ghost use Rattle.std.specs.Prelude.{◌≡◌, ◌≢◌, ◌<◌, ◌≤◌};
 ghost use Rattle.lasso.specs.declared.value.Value.TheVariants.{No};
 ghost use Rattle.meaning.specs.Tuples.{tuples as tuples_of};
 ghost use Rattle.meaning.specs.Tables.{TableIs, table_at, transpose_table, round_table, closure_table, turned_table};
+ghost use Rattle.meaning.specs.Laws.{ClosureAtAtoms, TransposeAtAtoms};
 ghost use Rattle.tuples.specs.Tabled.{table_of, Tabled};
 
 use super::super::atoms::Atoms;
@@ -16,6 +17,8 @@ impl Tuples {
     pub fn turned(&self, turn: Turn, atoms: Atoms) -> Tuples
         ensures pairs { self.now.arity ≡ 2 → Tabled atoms.count 2 (turned_table turn atoms.count (table_of self.now)) result }
         ensures others { self.now.arity ≢ 2 → Tabled atoms.count 1 (λ r. No) result }
+        ensures transpose { TransposeAtAtoms }
+        ensures closure { ClosureAtAtoms }
     {
         if self.arity != 2 {
             return Tuples::blank();

@@ -10,6 +10,6 @@ returns c m copied =
       fits = fits;
       path = path_of c.known_table.result;
       known = known;
-      value = c.evaluate.ensures;
-      settles = known_settles c.args.problem.now m (path_of c.known_table.result) c.evaluate.result known c.evaluate.ensures;
+      value = c.evaluate.ensures.value;
+      settles = known_settles c.args.problem.now m (path_of c.known_table.result) c.evaluate.result known c.evaluate.ensures.value;
     }
