@@ -1,6 +1,12 @@
 -- The tables of the three values, for src/value. Assumes nothing.
+use Rattle.std.specs.Prelude.{Bool, true, false}
 use Rattle.lasso.specs.declared.value.Value.{Value}
 use Rattle.lasso.specs.declared.value.Value.TheVariants.{No, Open, Yes}
+
+-- yes of what holds, no of what does not
+abbrev pub of_bool : Bool → Value
+of_bool true = Yes
+of_bool false = No
 
 abbrev pub not : Value → Value
 not No = Yes

@@ -1,5 +1,7 @@
 ghost use Rattle.std.specs.Prelude.{◌≡◌};
-ghost use Rattle.lasso.specs.Values.{not as not_of, smaller as smaller_of, greater as greater_of};
+ghost use Rattle.lasso.specs.Values.{not as not_of, of_bool, smaller as smaller_of, greater as greater_of};
+
+use std::ops::Not;
 
 // A Kleene value: what is known of a place at an instant. The values ascend.
 #[derive(Clone, Copy, PartialEq, Eq, PartialOrd, Ord, Debug)]
@@ -10,36 +12,41 @@ pub enum Value {
 }
 
 impl Value {
-    // No and yes exchanged; open stays.
-    pub fn not(self) -> Value
-        ensures { result ≡ not_of self }
-    {
-        match self {
-            Value::No => Value::Yes,
-            Value::Open => Value::Open,
-            Value::Yes => Value::No,
-        }
-    }
-
     // The smaller of two values.
     pub fn smaller(self, other: Value) -> Value
         ensures { result ≡ smaller_of self other }
     {
-        match (self, other) {
-            (Value::No, _) | (_, Value::No) => Value::No,
-            (Value::Open, _) | (_, Value::Open) => Value::Open,
-            (Value::Yes, Value::Yes) => Value::Yes,
-        }
+        self.min(other)
     }
 
     // The greater of two values.
     pub fn greater(self, other: Value) -> Value
         ensures { result ≡ greater_of self other }
     {
-        match (self, other) {
-            (Value::Yes, _) | (_, Value::Yes) => Value::Yes,
-            (Value::Open, _) | (_, Value::Open) => Value::Open,
-            (Value::No, Value::No) => Value::No,
+        self.max(other)
+    }
+}
+
+// No and yes exchanged; open stays.
+impl Not for Value {
+    type Output = Value;
+
+    ghost not_gives = { λ v r. r ≡ not_of v };
+
+    fn not(self) -> Value {
+        match self {
+            Value::No => Value::Yes,
+            Value::Open => Value::Open,
+            Value::Yes => Value::No,
         }
+    }
+}
+
+// Yes of what holds, no of what does not.
+impl From<bool> for Value {
+    ghost from_gives = { λ b v. v ≡ of_bool b };
+
+    fn from(held: bool) -> Value {
+        if held { Value::Yes } else { Value::No }
     }
 }
