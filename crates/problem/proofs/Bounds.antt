@@ -1,8 +1,7 @@
--- The bounds of a relation from its two sets, and how many of them are open.
-use Rattle.std.proofs.Common.{◌≡◌, ℕ, zero, suc, ◌+◌, ◌<◌, Bool, false, List, [], ◌∷◌, length, get_or, refl, ap, arith}
-use Rattle.lasso.specs.declared.value.Value.{Value}
+-- The bounds of a relation from its two sets.
+use Rattle.std.proofs.Common.{◌≡◌, ℕ, zero, suc, ◌<◌, Bool, false, List, [], ◌∷◌, length, get_or, refl, ap, arith}
 use Rattle.lasso.specs.declared.value.Value.TheVariants.{No}
-use Rattle.problem.specs.Relations.{bound, bounds_of, openness, opens}
+use Rattle.problem.specs.Relations.{bound, bounds_of}
 
 pub length_bounds : (ls us : List Bool) → length ls ≡ length us → length (bounds_of ls us) ≡ length ls
 unfolding bounds_of
@@ -17,11 +16,3 @@ get_d_bounds [] us i e h = absurd (omega arith)
 get_d_bounds (l ∷ ls) [] i e h = absurd (omega arith)
 get_d_bounds (l ∷ ls) (u ∷ us) zero e h = refl
 get_d_bounds (l ∷ ls) (u ∷ us) (suc i) e h = get_d_bounds ls us i (omega arith) (omega arith)
-
-pub opens_cons : (v : Value) (vs : List Value) → opens (v ∷ vs) ≡ openness v + opens vs
-unfolding opens
-opens_cons v vs = refl
-
-pub opens_nil : opens [] ≡ 0
-unfolding opens
-opens_nil = refl

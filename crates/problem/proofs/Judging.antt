@@ -1,24 +1,26 @@
 -- What each node is found to be, one node more at a time.
-use Rattle.std.proofs.Common.{◌≡◌, ℕ, ◌+◌, ◌<◌, ◌≤◌, Bool, true, false, cond, ◌&&◌, leb, List, [], ◌∷◌, ◌++◌, length, take, IfOk, Ok, Err, Result, sym, refl, ap, ◌∙◌, inl, inr, arith, eq-eqb, leb-true}
+use Rattle.std.proofs.Common.{◌≡◌, ℕ, zero, suc, ◌+◌, ◌<◌, ◌≤◌, Bool, true, false, cond, ◌&&◌, leb, List, [], ◌∷◌, ◌++◌, length, take, IfOk, Ok, Err, Result, sym, refl, ap, ◌∙◌, inl, inr, arith, eq-eqb, leb-true}
 use Rattle.std.proofs.lemmas.Bool.{cases_lt}
 use Rattle.std.proofs.lemmas.List.{take-append-le, take_at, get_or_append_left, get_or_push, length_push}
+use Rattle.std.specs.List.{slice_get}
+use Rattle.std.specs.Option.{option_map_or}
 use Rattle.problem.specs.declared.node.Node.{Node}
 use Rattle.problem.specs.declared.node.Node.TheVariants as node
 use Rattle.problem.specs.declared.sort.Sort.{Sort}
+use Rattle.problem.specs.declared.sort.Sort.TheVariants as sort
 use Rattle.problem.specs.declared.sort.Kind.{Kind}
 use Rattle.problem.specs.declared.sort.Misfit.{Misfit}
 use Rattle.problem.specs.declared.draft.Draft.{Draft}
-use Rattle.problem.specs.Sorts.{judge, found, node_at, sort_at, no_sort, Judged, of_kind, wanted, most_parts}
+use Rattle.problem.specs.Sorts.{judge, found, node_at, sort_at, no_sort, Judged, arity_at, sort_arity, sort_bound, of_kind, wanted, most_parts}
 use Rattle.problem.specs.Drafts.{sorts_of, arities_of, Placed}
 
-both : (a b c : Bool) → a ≡ true → b ≡ true → c ≡ true → (a && (b && c)) ≡ true
-both true true true p q r = refl
-both true true false p q r = r
-both true false c p q r = q
-both false b c p q r = p
+both : (a b : Bool) → a ≡ true → b ≡ true → (a && b) ≡ true
+both true b p q = q
+both false b p q = p
 
 pub found_self : (s : Sort) → found (Ok s) s ≡ true
-found_self s = both _ _ _ (eq-eqb s.arity s.arity refl) (eq-eqb s.past s.past refl) (eq-eqb s.bound s.bound refl)
+found_self (sort.Expression a b) = both _ _ (eq-eqb a a refl) (eq-eqb b b refl)
+found_self (sort.Formula p b) = both _ _ (eq-eqb p p refl) (eq-eqb b b refl)
 
 pub judged_more : (rs : List ℕ) (ns : List Node) (ss : List Sort) (n : Node) (s : Sort) → length ss ≡ length ns → Judged rs ns ss → judge rs ss n ≡ Ok s → Judged rs (ns ++ n ∷ []) (ss ++ s ∷ [])
 judged_more rs ns ss n s e J j i h =
@@ -50,15 +52,15 @@ fitted false y t s m e = absurd (let z : ◌≡◌ {A = ℕ} 0 1 = cc in omega a
 pub record Wanted (k : Kind) (b : ℕ) (j : Result Sort Misfit) (s : Sort) : Type 0 where
   pub judged : j ≡ Ok s
   pub is_of_kind : of_kind k s ≡ true
-  pub few : s.bound ≤ b
+  pub few : sort_bound s ≤ b
 
 pub wanted_inv : (k : Kind) (b : ℕ) (j : Result Sort Misfit) (s : Sort) → wanted k b j ≡ Ok s → Wanted k b j s
 wanted_inv k b (Ok t) s e =
-    let f = fitted (of_kind k t) (leb t.bound b) t s _ e in
+    let f = fitted (of_kind k t) (leb (sort_bound t) b) t s _ e in
     record {
       judged = ap Ok f.same;
       is_of_kind = ap (of_kind k) (sym f.same) ∙ f.first;
-      few = leb-true _ _ (ap (λ (x : Sort). leb x.bound b) (sym f.same) ∙ f.second);
+      few = leb-true _ _ (ap (λ (x : Sort). leb (sort_bound x) b) (sym f.same) ∙ f.second);
     }
 wanted_inv k b (Err m) s e = absurd (let z : ◌≡◌ {A = ℕ} 0 1 = cc in omega arith)
 
@@ -67,3 +69,8 @@ fits_made k b n d (Ok s) h e =
     let w = wanted_inv k b (judge (arities_of d) (sorts_of d) n) s (sym e) in
     record { room = h; judged = w.judged; is_of_kind = w.is_of_kind; few = w.few }
 fits_made k b n d (Err m) h e = tt
+
+pub arity_known : (ss : List Sort) (i : ℕ) → arity_at ss i ≡ option_map_or sort_arity (slice_get ss i) 0
+arity_known [] i = refl
+arity_known (s ∷ ss) zero = refl
+arity_known (s ∷ ss) (suc i) = arity_known ss i

@@ -1,5 +1,5 @@
 pub mod Bounds
+pub mod Made
 pub mod Maps
 pub mod Judging
 pub mod Nths
-pub mod Frees

@@ -1,5 +1,5 @@
 -- What a draft holds, and what comes of one node more, for src/draft. Assumes nothing.
-use Rattle.std.specs.Prelude.{◌≡◌, ℕ, ◌+◌, ◌<◌, ◌≤◌, true, List, [], ◌∷◌, ◌++◌, length, Ok, Err, vec_items}
+use Rattle.std.specs.Prelude.{◌≡◌, ℕ, ◌+◌, ◌<◌, ◌≤◌, true, List, [], ◌∷◌, ◌++◌, map, length, Ok, Err, vec_items}
 use Rattle.problem.specs.declared.node.Node.{Node}
 use Rattle.problem.specs.declared.sort.Sort.{Sort}
 use Rattle.problem.specs.declared.sort.Kind.{Kind}
@@ -7,13 +7,13 @@ use Rattle.problem.specs.declared.sort.Misfit.{Misfit}
 use Rattle.problem.specs.declared.signature.Signature.{Signature}
 use Rattle.problem.specs.declared.draft.Draft.{Draft}
 use Rattle.problem.specs.Declarations.{atoms_of, relations_of, arities}
-use Rattle.problem.specs.Sorts.{most_parts, judge, placed, of_kind, sort_at}
+use Rattle.problem.specs.Sorts.{most_parts, part_node, part_sort, sort_bound, judge, placed, of_kind, sort_at, bound_at}
 
 abbrev pub nodes_of : Draft → List Node
-nodes_of d = vec_items d.nodes
+nodes_of d = map part_node (vec_items d.parts)
 
 abbrev pub sorts_of : Draft → List Sort
-sorts_of d = vec_items d.sorts
+sorts_of d = map part_sort (vec_items d.parts)
 
 -- the arities of the relations
 abbrev pub arities_of : Draft → List ℕ
@@ -50,14 +50,14 @@ pub record Kept (before after : Draft) : Type 0 where
 pub record Last (kind : Kind) (bound : ℕ) (after : Draft) (i : ℕ) : Type 0 where
   pub index : i + 1 ≡ length (nodes_of after)
   pub is_of_kind : of_kind kind (sort_at (sorts_of after) i) ≡ true
-  pub few : (sort_at (sorts_of after) i).bound ≤ bound
+  pub few : bound_at (sorts_of after) i ≤ bound
 
 -- what a node would be, where it fits
 pub record Placed (kind : Kind) (bound : ℕ) (n : Node) (d : Draft) (s : Sort) : Type 0 where
   pub room : length (sorts_of d) < most_parts
   pub judged : judge (arities_of d) (sorts_of d) n ≡ Ok s
   pub is_of_kind : of_kind kind s ≡ true
-  pub few : s.bound ≤ bound
+  pub few : sort_bound s ≤ bound
 
 -- one node more, of that sort
 pub record Added (kind : Kind) (bound : ℕ) (n : Node) (s : Sort) (before after : Draft) (i : ℕ) : Type 0 where

@@ -1,5 +1,5 @@
 -- How many places are free, and which declarations and horizon go together. Assumes nothing.
-use Rattle.std.specs.Prelude.{ℕ, ◌+◌, ◌*◌, cond, ◌&&◌, List, [], ◌∷◌, map, length, Some, None, Option, nat_le, nat_lt}
+use Rattle.std.specs.Prelude.{ℕ, ◌*◌, cond, ◌&&◌, List, map, length, sum_by, Some, None, Option, nat_le, nat_lt}
 use Rattle.problem.specs.declared.relation.Mutability.{Mutability}
 use Rattle.problem.specs.declared.relation.Mutability.TheVariants.{Fixed, Mutable}
 use Rattle.problem.specs.declared.relation.Arity.{Arity}
@@ -36,9 +36,8 @@ abbrev pub free_of : ℕ → ℕ → Declared → ℕ
 free_of n h r = times_of h r.mutability * free_in (size_of n r.arity) r.bounds
 
 -- the free fixed places, and the free mutable ones for each state of the horizon
-unfoldable pub free_places : ℕ → List Declared → ℕ → ℕ
-free_places n [] h = 0
-free_places n (r ∷ rs) h = free_of n h r + free_places n rs h
+abbrev pub free_places : ℕ → List Declared → ℕ → ℕ
+free_places n rs h = sum_by (free_of n h) rs
 
 -- why declarations and a horizon do not go together, if so
 abbrev pub fitness : List (List ℕ) → List Declared → ℕ → Option Unfit

@@ -1,12 +1,14 @@
 -- Relations with their bounds, and how many of their tuples are free. Assumes nothing.
-use Rattle.std.specs.Prelude.{ℕ, ◌+◌, Bool, true, false, cond, List, [], ◌∷◌, take, Some, None, Option, ◌==◌}
+use Rattle.std.specs.Prelude.{◌≡◌, ℕ, Bool, true, false, cond, List, [], ◌∷◌, take, count_by, Some, None, Option, Result, MatchResult, ◌==◌, codes}
 use Rattle.lasso.specs.declared.value.Value.{Value}
 use Rattle.lasso.specs.declared.value.Value.TheVariants.{No, Open, Yes}
 use Rattle.names.specs.Names.{spelling}
 use Rattle.problem.specs.declared.relation.Atom.{Atom}
 use Rattle.problem.specs.declared.relation.Mutability.{Mutability}
+use Rattle.problem.specs.declared.relation.Mutability.TheVariants.{Fixed, Mutable}
 use Rattle.problem.specs.declared.relation.Arity.{Arity}
 use Rattle.problem.specs.declared.relation.Arity.TheVariants.{One, Two}
+use Rattle.problem.specs.declared.relation.NotAnArity.{NotAnArity}
 use Rattle.problem.specs.declared.relation.Relation.{Relation}
 
 -- the most tuples of a relation
@@ -16,10 +18,19 @@ most_tuples = 64
 abbrev pub arity_of : ℕ → Option Arity
 arity_of n = cond (n == 1) (Some One) (cond (n == 2) (Some Two) None)
 
+-- the result is the arity of so many atoms, or an error where there is none
+abbrev pub IsArityOf : ℕ → Result Arity NotAnArity → Type 0
+IsArityOf n r = MatchResult r (λ a. arity_of n ≡ Some a) (λ e. arity_of n ≡ None)
+
 -- how many atoms a tuple has
 abbrev pub arity_number : Arity → ℕ
 arity_number One = 1
 arity_number Two = 2
+
+-- the word for whether a relation may differ from state to state
+abbrev pub mutability_word : Mutability → List ℕ
+mutability_word Fixed = codes "fixed"
+mutability_word Mutable = codes "mutable"
 
 -- what the lower and the upper set say of a tuple
 abbrev pub bound : Bool → Bool → Value
@@ -55,16 +66,15 @@ declared_of r = record { name = spelling r.name; mutability = r.mutability; arit
 abbrev pub declared : List ℕ → Mutability → Arity → List Bool → List Bool → Declared
 declared n m a lower upper = record { name = n; mutability = m; arity = a; bounds = bounds_of lower upper }
 
--- 1 if a value is open
-abbrev pub openness : Value → ℕ
-openness No = 0
-openness Open = 1
-openness Yes = 0
+-- whether a value is open
+abbrev pub is_open : Value → Bool
+is_open No = false
+is_open Open = true
+is_open Yes = false
 
 -- how many values are open
-unfoldable pub opens : List Value → ℕ
-opens [] = 0
-opens (v ∷ vs) = openness v + opens vs
+abbrev pub opens : List Value → ℕ
+opens vs = count_by is_open vs
 
 -- how many of the first values are open
 abbrev pub free_in : ℕ → List Value → ℕ

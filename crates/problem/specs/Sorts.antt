@@ -12,10 +12,12 @@ use Rattle.problem.specs.declared.node.Prefix.TheVariants as prefix
 use Rattle.problem.specs.declared.node.Infix.{Infix}
 use Rattle.problem.specs.declared.node.Infix.TheVariants as word
 use Rattle.problem.specs.declared.sort.Sort.{Sort}
+use Rattle.problem.specs.declared.sort.Sort.TheVariants as sort
 use Rattle.problem.specs.declared.sort.Kind.{Kind}
 use Rattle.problem.specs.declared.sort.Kind.TheVariants as kind
 use Rattle.problem.specs.declared.sort.Misfit.{Misfit}
 use Rattle.problem.specs.declared.sort.Misfit.TheVariants as misfit
+use Rattle.problem.specs.declared.part.Part.{Part}
 
 -- the most parts of a formula, the deepest past, the most variables bound at once
 abbrev pub most_parts : ℕ
@@ -27,12 +29,40 @@ most_past = 4
 abbrev pub most_variables : ℕ
 most_variables = 4
 
--- an expression of an arity, under so many variables
+-- an expression of an arity, or a formula so deep in the past, under so many variables
 abbrev pub expression : ℕ → ℕ → Sort
-expression a b = record { arity = a; past = 0; bound = b }
+expression a b = sort.Expression a b
 
 abbrev pub formula : ℕ → ℕ → Sort
-formula p b = record { arity = 0; past = p; bound = b }
+formula p b = sort.Formula p b
+
+-- the arity of an expression, 0 of a formula; the past of a formula, 0 of an expression; how many variables either is under
+abbrev pub sort_arity : Sort → ℕ
+sort_arity (sort.Expression a b) = a
+sort_arity (sort.Formula p b) = 0
+
+abbrev pub sort_past : Sort → ℕ
+sort_past (sort.Expression a b) = 0
+sort_past (sort.Formula p b) = p
+
+abbrev pub sort_bound : Sort → ℕ
+sort_bound (sort.Expression a b) = b
+sort_bound (sort.Formula p b) = b
+
+abbrev pub is_expression : Sort → Bool
+is_expression (sort.Expression a b) = true
+is_expression (sort.Formula p b) = false
+
+abbrev pub is_formula : Sort → Bool
+is_formula (sort.Expression a b) = false
+is_formula (sort.Formula p b) = true
+
+-- the node of a part, and what it is
+abbrev pub part_node : Part → Node
+part_node p = p.node
+
+abbrev pub part_sort : Part → Sort
+part_sort p = p.sort
 
 -- the sort, if the test is met
 abbrev pub fitting : Bool → Sort → Result Sort Misfit
@@ -82,23 +112,33 @@ infix_past word.Since = 1
 
 -- a formula is not too deep in the past
 abbrev pub shallow : Sort → Result Sort Misfit
-shallow s = cond (nat_le s.past most_past) (Ok s) (Err misfit.Past)
+shallow s = cond (nat_le (sort_past s) most_past) (Ok s) (Err misfit.Past)
 
 abbrev pub prefixed : ℕ → Sort → Result Sort Misfit
-prefixed d s = cond (s.arity == 0) (shallow (formula (s.past + d) s.bound)) (Err misfit.Arity)
+prefixed d (sort.Expression a b) = Err misfit.Arity
+prefixed d (sort.Formula p b) = shallow (formula (p + d) b)
 
 abbrev pub joined : ℕ → Sort → Sort → Result Sort Misfit
-joined d s t = cond (s.arity == 0 && t.arity == 0) (shallow (formula (max s.past t.past + d) (max s.bound t.bound))) (Err misfit.Arity)
+joined d (sort.Expression a b) t = Err misfit.Arity
+joined d (sort.Formula p b) (sort.Expression a c) = Err misfit.Arity
+joined d (sort.Formula p b) (sort.Formula q c) = shallow (formula (max p q + d) (max b c))
 
 abbrev pub combined : Operator → Sort → Sort → Result Sort Misfit
-combined o s t = fitting (nat_lt 0 s.arity && (nat_lt 0 t.arity && suits o s.arity t.arity)) (expression (outcome o s.arity t.arity) (max s.bound t.bound))
+combined o (sort.Formula p b) t = Err misfit.Arity
+combined o (sort.Expression x b) (sort.Formula p c) = Err misfit.Arity
+combined o (sort.Expression x b) (sort.Expression y c) = fitting (suits o x y) (expression (outcome o x y) (max b c))
 
 abbrev pub compared : Sort → Sort → Result Sort Misfit
-compared s t = fitting (nat_lt 0 s.arity && s.arity == t.arity) (formula 0 (max s.bound t.bound))
+compared (sort.Formula p b) t = Err misfit.Arity
+compared (sort.Expression x b) (sort.Formula p c) = Err misfit.Arity
+compared (sort.Expression x b) (sort.Expression y c) = fitting (x == y) (formula 0 (max b c))
 
 -- a variable is used in the body only
 abbrev pub quantified : ℕ → Sort → Sort → Result Sort Misfit
-quantified v s t = fitting (s.arity == 1 && (t.arity == 0 && (nat_le s.bound v && (nat_le t.bound (suc v) && nat_lt v most_variables)))) (formula t.past v)
+quantified v (sort.Formula p b) t = Err misfit.Arity
+quantified v (sort.Expression x b) (sort.Expression y c) = Err misfit.Arity
+quantified v (sort.Expression x b) (sort.Formula p c) =
+    fitting (x == 1 && (nat_le b v && (nat_le c (suc v) && nat_lt v most_variables))) (formula p v)
 
 abbrev pub relation_sort : Option ℕ → Result Sort Misfit
 relation_sort None = Err misfit.Arity
@@ -109,13 +149,16 @@ variable_sort v = fitting (nat_lt v most_variables) (expression 1 (suc v))
 
 -- pairs turned round or chained; an expression an instant later; a question of an expression
 abbrev pub turned_sort : Sort → Result Sort Misfit
-turned_sort s = fitting (s.arity == 2) (expression 2 s.bound)
+turned_sort (sort.Expression a b) = fitting (a == 2) (expression 2 b)
+turned_sort (sort.Formula p b) = Err misfit.Arity
 
 abbrev pub next_sort : Sort → Result Sort Misfit
-next_sort s = fitting (nat_lt 0 s.arity) (expression s.arity s.bound)
+next_sort (sort.Expression a b) = Ok (expression a b)
+next_sort (sort.Formula p b) = Err misfit.Arity
 
 abbrev pub tested_sort : Sort → Result Sort Misfit
-tested_sort s = fitting (nat_lt 0 s.arity) (formula 0 s.bound)
+tested_sort (sort.Expression a b) = Ok (formula 0 b)
+tested_sort (sort.Formula p b) = Err misfit.Arity
 
 -- what a node is, given the arities of the relations and what the nodes before it are
 abbrev pub judge : List ℕ → List Sort → Node → Result Sort Misfit
@@ -133,12 +176,12 @@ judge rs ss (node.Quantified q v a b) = from (slice_get ss a) (λ s. from (slice
 
 -- whether a sort is of a kind
 abbrev pub of_kind : Kind → Sort → Bool
-of_kind kind.Formula s = s.arity == 0
-of_kind kind.Expression s = nat_lt 0 s.arity
+of_kind kind.Formula s = is_formula s
+of_kind kind.Expression s = is_expression s
 
 -- a node of that kind, which uses at most so many variables
 abbrev pub wanted : Kind → ℕ → Result Sort Misfit → Result Sort Misfit
-wanted k b (Ok s) = fitting (of_kind k s && nat_le s.bound b) s
+wanted k b (Ok s) = fitting (of_kind k s && nat_le (sort_bound s) b) s
 wanted k b (Err m) = Err m
 
 -- what comes of one node more
@@ -152,19 +195,22 @@ no_sort = expression 0 0
 abbrev pub sort_at : List Sort → ℕ → Sort
 sort_at ss i = slice_index_or ss i no_sort
 
--- the arity of a node, 0 beyond the end
+-- the arity of a node, 0 of a formula and beyond the end
 abbrev pub arity_at : List Sort → ℕ → ℕ
-arity_at ss i = (sort_at ss i).arity
+arity_at ss i = sort_arity (sort_at ss i)
 
 abbrev pub bound_at : List Sort → ℕ → ℕ
-bound_at ss i = (sort_at ss i).bound
+bound_at ss i = sort_bound (sort_at ss i)
 
 abbrev pub node_at : List Node → ℕ → Node
 node_at ns i = slice_index_or ns i (node.Relation 0)
 
 -- whether this sort was found
 abbrev pub found : Result Sort Misfit → Sort → Bool
-found (Ok s) t = s.arity == t.arity && (s.past == t.past && s.bound == t.bound)
+found (Ok (sort.Expression a b)) (sort.Expression c d) = a == c && b == d
+found (Ok (sort.Expression a b)) (sort.Formula q d) = false
+found (Ok (sort.Formula p b)) (sort.Expression c d) = false
+found (Ok (sort.Formula p b)) (sort.Formula q d) = p == q && b == d
 found (Err m) t = false
 
 -- each node is what it is found to be from the nodes before it
@@ -174,5 +220,5 @@ Judged rs ns ss = (i : ℕ) → i < length ns → found (judge rs (take i ss) (n
 -- a whole formula: the last node is one, and uses no variable
 pub record Whole (ss : List Sort) : Type 0 where
   pub some : 0 < length ss
-  pub formula : arity_at ss (length ss - 1) ≡ 0
+  pub formula : is_formula (sort_at ss (length ss - 1)) ≡ true
   pub closed : bound_at ss (length ss - 1) ≡ 0

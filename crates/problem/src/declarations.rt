@@ -10,6 +10,10 @@ pub const MOST_ATOMS: usize = 8;
 // The most relations of a problem.
 pub const MOST_RELATIONS: usize = 12;
 
+// There is no room for one more.
+#[derive(Clone, Copy, PartialEq, Eq, Debug)]
+pub struct NoRoom;
+
 // The atoms and relations that are declared so far, numbered from 0, with room for as many as there may be.
 #[derive(Drop)]
 pub struct Declarations {

@@ -5,34 +5,50 @@ ghost use Rattle.problem.specs.Free.{size_of, sizes, times_of, free_of, free_pla
 use super::relation::{Arity, Mutability, Relation};
 
 // Why declarations and a horizon do not go together.
-#[derive(Clone, Copy)]
+#[derive(Clone, Copy, PartialEq, Eq, Debug)]
 pub enum Unfit {
     Limit,
     FreePlaces,
 }
 
-// How many tuples there are of so many atoms.
-fn size_of(atoms: usize, arity: Arity) -> usize
-    requires { atoms ≤ 8 }
-    ensures value { result ≡ size_of atoms arity }
-    ensures few { result ≤ 64 }
-{
-    match arity {
-        Arity::One => atoms,
-        Arity::Two => squared(atoms),
+impl Arity {
+    // How many tuples of so many atoms there are.
+    fn size(self, atoms: usize) -> usize
+        requires { atoms ≤ 8 }
+        ensures value { result ≡ size_of atoms self }
+        ensures few { result ≤ 64 }
+    {
+        match self {
+            Arity::One => atoms,
+            Arity::Two => squared(atoms),
+        }
+    }
+}
+
+impl Mutability {
+    // How many states a free place counts for.
+    fn times(self, horizon: usize) -> usize
+        requires { horizon ≤ 8 }
+        ensures value { result ≡ times_of horizon self }
+        ensures few { result ≤ 8 }
+    {
+        match self {
+            Mutability::Fixed => 1,
+            Mutability::Mutable => horizon,
+        }
     }
 }
 
 // How many tuples the relation at an index may have, 0 beyond the end.
+#[tactic(auto, using(crate::proofs::Nths::size_got))]
 pub(crate) fn size_at(relations: &[Relation], atoms: usize, at: usize) -> usize
     requires { atoms ≤ 8 }
     ensures value { result ≡ slice_index (sizes atoms (map declared_of relations.now)) at }
     ensures few { result ≤ 64 }
 {
-    if at < relations.len() {
-        return size_of(atoms, relations[at].arity());
-    }
-    0
+    relations
+        .get(at)
+        .map_or(0, |relation| relation.arity().size(atoms))
 }
 
 // So many times so many.
@@ -44,18 +60,6 @@ fn squared(n: usize) -> usize
     n * n
 }
 
-// How many states a free place of a relation counts for.
-fn times(horizon: usize, mutability: Mutability) -> usize
-    requires { horizon ≤ 8 }
-    ensures value { result ≡ times_of horizon mutability }
-    ensures few { result ≤ 8 }
-{
-    match mutability {
-        Mutability::Fixed => 1,
-        Mutability::Mutable => horizon,
-    }
-}
-
 // How much a relation counts.
 fn free_of(relation: &Relation, atoms: usize, horizon: usize) -> usize
     requires atoms { atoms ≤ 8 }
@@ -64,8 +68,8 @@ fn free_of(relation: &Relation, atoms: usize, horizon: usize) -> usize
     ensures few { result ≤ 512 }
 {
     product(
-        times(horizon, relation.mutability()),
-        relation.free(size_of(atoms, relation.arity())),
+        relation.mutability().times(horizon),
+        relation.free(relation.arity().size(atoms)),
     )
 }
 
@@ -86,9 +90,8 @@ pub(crate) fn free_places(relations: &[Relation], atoms: usize, horizon: usize) 
     requires horizon { horizon ≤ 8 }
     ensures { result ≡ free_places atoms (map declared_of relations.now) horizon }
 {
-    let mut total = 0;
-    'total: for relation in relations {
-        total += free_of(relation, atoms, horizon);
-    }
-    total
+    relations
+        .iter()
+        .map(|relation| free_of(relation, atoms, horizon))
+        .sum()
 }

@@ -1,34 +1,36 @@
-ghost use Rattle.std.specs.Prelude.{◌≡◌, suc, ◌+◌, ◌≤◌, true, ◌&&◌, map, nat_le, nat_lt};
+ghost use Rattle.std.specs.Prelude.{◌≡◌, suc, ◌+◌, ◌≤◌, None, MatchResult, ◌&&◌, map, nat_le, nat_lt};
 ghost use Rattle.std.specs.List.{slice_get};
+ghost use Rattle.problem.specs.declared.sort.Misfit.TheVariants.{Arity};
 ghost use Rattle.problem.specs.Relations.{declared_of};
 ghost use Rattle.problem.specs.Declarations.{arities};
-ghost use Rattle.problem.specs.Sorts.{expression as expression_of, formula as formula_of, from, constant_arity, suits as suits_of, outcome as outcome_of, prefix_past, infix_past, shallow as shallow_of, prefixed as prefixed_of, joined as joined_of, combined as combined_of, compared as compared_of, quantified as quantified_of, relation_sort, variable_sort, turned_sort, next_sort, tested_sort, judge as judge_of, of_kind, wanted as wanted_of};
+ghost use Rattle.problem.specs.Sorts.{part_sort, expression as expression_of, formula as formula_of, shallow as shallow_of, prefixed as prefixed_of, prefix_past, joined as joined_of, infix_past, combined as combined_of, compared as compared_of, quantified as quantified_of, relation_sort, variable_sort, turned_sort, next_sort, tested_sort, judge as judge_of, wanted as wanted_of};
 
-use super::node::{Constant, Infix, Node, Operator, Prefix};
+use super::node::{Infix, Node, Operator, Prefix};
+use super::part::Part;
 use super::relation::Relation;
 use super::sort::{Kind, MOST_PAST, MOST_VARIABLES, Misfit, Sort};
 
-// What a node is, given the relations and what the nodes before it are.
-pub(crate) fn judge(node: Node, relations: &[Relation], sorts: &[Sort]) -> Result<Sort, Misfit>
-    ensures { result ≡ judge_of (arities (map declared_of relations.now)) sorts.now node }
+// What a node is, given the relations and the parts before it.
+pub(crate) fn judge(node: Node, relations: &[Relation], parts: &[Part]) -> Result<Sort, Misfit>
+    ensures { result ≡ judge_of (arities (map declared_of relations.now)) (map part_sort parts.now) node }
 {
     match node {
         Node::Relation(r) => relation_sort(relations, r),
-        Node::Variable(v) => variable(v),
-        Node::Constant(c) => Ok(expression(constant_arity(c), 0)),
-        Node::Turned(_, a) => turned(sort_at(sorts, a)),
-        Node::Next(a) => next(sort_at(sorts, a)),
-        Node::Combined(o, a, b) => combined_at(o, sort_at(sorts, a), sort_at(sorts, b)),
-        Node::Tested(_, a) => tested(sort_at(sorts, a)),
-        Node::Compared(_, a, b) => compared_at(sort_at(sorts, a), sort_at(sorts, b)),
-        Node::Prefixed(p, a) => prefixed_at(prefix_past(p), sort_at(sorts, a)),
-        Node::Joined(i, a, b) => joined_at(infix_past(i), sort_at(sorts, a), sort_at(sorts, b)),
+        Node::Variable(v) => variable_sort(v),
+        Node::Constant(c) => Ok(expression(c.arity(), 0)),
+        Node::Turned(_, a) => turned(sort_at(parts, a)?),
+        Node::Next(a) => later(sort_at(parts, a)?),
+        Node::Combined(o, a, b) => combined(o, sort_at(parts, a)?, sort_at(parts, b)?),
+        Node::Tested(_, a) => tested(sort_at(parts, a)?),
+        Node::Compared(_, a, b) => compared(sort_at(parts, a)?, sort_at(parts, b)?),
+        Node::Prefixed(p, a) => prefixed(p, sort_at(parts, a)?),
+        Node::Joined(i, a, b) => joined(i, sort_at(parts, a)?, sort_at(parts, b)?),
         Node::Quantified {
-            quantifier: _,
             variable,
             domain,
             body,
-        } => quantified_at(variable, sort_at(sorts, domain), sort_at(sorts, body)),
+            ..
+        } => quantified(variable, sort_at(parts, domain)?, sort_at(parts, body)?),
     }
 }
 
@@ -36,69 +38,36 @@ pub(crate) fn judge(node: Node, relations: &[Relation], sorts: &[Sort]) -> Resul
 pub(crate) fn wanted(kind: Kind, bound: usize, judged: Result<Sort, Misfit>) -> Result<Sort, Misfit>
     ensures { result ≡ wanted_of kind bound judged }
 {
-    match judged {
-        Ok(sort) => {
-            if is_of(kind, sort) && sort.bound <= bound {
-                return Ok(sort);
-            }
-            Err(Misfit::Arity)
-        }
-        Err(misfit) => Err(misfit),
+    let sort = judged?;
+    if kind.admits(sort) && sort.bound() <= bound {
+        return Ok(sort);
     }
-}
-
-// Whether a sort is of a kind.
-fn is_of(kind: Kind, sort: Sort) -> bool
-    ensures { result ≡ of_kind kind sort }
-{
-    match kind {
-        Kind::Formula => sort.arity == 0,
-        Kind::Expression => 0 < sort.arity,
-    }
+    Err(Misfit::Arity)
 }
 
 // An expression of an arity, under so many variables.
 fn expression(arity: usize, bound: usize) -> Sort
     ensures { result ≡ expression_of arity bound }
 {
-    Sort {
-        arity,
-        past: 0,
-        bound,
-    }
+    Sort::Expression { arity, bound }
 }
 
-// A formula so deep in the past, under so many variables.
-fn formula(past: usize, bound: usize) -> Sort
-    ensures { result ≡ formula_of past bound }
+// What an earlier part is.
+fn sort_at(parts: &[Part], at: usize) -> Result<Sort, Misfit>
+    ensures { MatchResult result (λ s. slice_get (map part_sort parts.now) at ≡ Some s) (λ m. (slice_get (map part_sort parts.now) at ≡ None) × (m ≡ Arity)) }
 {
-    Sort {
-        arity: 0,
-        past,
-        bound,
-    }
+    parts.get(at).map(|part| part.sort).ok_or(Misfit::Arity)
 }
 
-// What an earlier node is.
-pub(crate) fn sort_at(sorts: &[Sort], at: usize) -> Option<Sort>
-    ensures { result ≡ slice_get sorts.now at }
-{
-    if at < sorts.len() {
-        return Some(sorts[at]);
-    }
-    None
-}
-
+#[tactic(auto, using(crate::proofs::Nths::arity_got, crate::proofs::Nths::no_arity))]
 fn relation_sort(relations: &[Relation], at: usize) -> Result<Sort, Misfit>
     ensures { result ≡ relation_sort (slice_get (arities (map declared_of relations.now)) at) }
 {
-    if at < relations.len() {
-        return Ok(expression(relations[at].arity().number(), 0));
-    }
-    Err(Misfit::Arity)
+    let relation = relations.get(at).ok_or(Misfit::Arity)?;
+    Ok(expression(relation.arity().number(), 0))
 }
 
-fn variable(v: usize) -> Result<Sort, Misfit>
+fn variable_sort(v: usize) -> Result<Sort, Misfit>
     ensures { result ≡ variable_sort v }
 {
     if v < MOST_VARIABLES {
@@ -107,149 +76,58 @@ fn variable(v: usize) -> Result<Sort, Misfit>
     Err(Misfit::Arity)
 }
 
-fn constant_arity(constant: Constant) -> usize
-    ensures { result ≡ constant_arity constant }
-{
-    match constant {
-        Constant::Univ | Constant::None => 1,
-        Constant::Iden => 2,
-    }
-}
-
 // Pairs turned round or chained.
-fn turned(part: Option<Sort>) -> Result<Sort, Misfit>
-    ensures { result ≡ from part turned_sort }
+fn turned(s: Sort) -> Result<Sort, Misfit>
+    ensures { result ≡ turned_sort s }
 {
-    match part {
-        Some(s) if s.arity == 2 => Ok(expression(2, s.bound)),
+    match s {
+        Sort::Expression { arity: 2, bound } => Ok(expression(2, bound)),
         _ => Err(Misfit::Arity),
     }
 }
 
-fn next(part: Option<Sort>) -> Result<Sort, Misfit>
-    ensures { result ≡ from part next_sort }
+// An expression an instant later.
+fn later(s: Sort) -> Result<Sort, Misfit>
+    ensures { result ≡ next_sort s }
 {
-    match part {
-        Some(s) if 0 < s.arity => Ok(expression(s.arity, s.bound)),
-        _ => Err(Misfit::Arity),
+    match s {
+        Sort::Expression { .. } => Ok(s),
+        Sort::Formula { .. } => Err(Misfit::Arity),
     }
 }
 
-fn tested(part: Option<Sort>) -> Result<Sort, Misfit>
-    ensures { result ≡ from part tested_sort }
+fn tested(s: Sort) -> Result<Sort, Misfit>
+    ensures { result ≡ tested_sort s }
 {
-    match part {
-        Some(s) if 0 < s.arity => Ok(formula(0, s.bound)),
-        _ => Err(Misfit::Arity),
-    }
-}
-
-fn combined_at(operator: Operator, left: Option<Sort>, right: Option<Sort>) -> Result<Sort, Misfit>
-    ensures { result ≡ from left (λ s. from right (λ t. combined_of operator s t)) }
-{
-    match (left, right) {
-        (Some(s), Some(t)) => combined(operator, s, t),
-        _ => Err(Misfit::Arity),
-    }
-}
-
-fn compared_at(left: Option<Sort>, right: Option<Sort>) -> Result<Sort, Misfit>
-    ensures { result ≡ from left (λ s. from right (λ t. compared_of s t)) }
-{
-    match (left, right) {
-        (Some(s), Some(t)) => compared(s, t),
-        _ => Err(Misfit::Arity),
-    }
-}
-
-fn prefixed_at(deeper: usize, part: Option<Sort>) -> Result<Sort, Misfit>
-    requires { deeper ≤ 1 }
-    ensures { result ≡ from part (λ s. prefixed_of deeper s) }
-{
-    match part {
-        Some(s) => prefixed(deeper, s),
-        None => Err(Misfit::Arity),
-    }
-}
-
-fn joined_at(deeper: usize, left: Option<Sort>, right: Option<Sort>) -> Result<Sort, Misfit>
-    requires { deeper ≤ 1 }
-    ensures { result ≡ from left (λ s. from right (λ t. joined_of deeper s t)) }
-{
-    match (left, right) {
-        (Some(s), Some(t)) => joined(deeper, s, t),
-        _ => Err(Misfit::Arity),
-    }
-}
-
-fn quantified_at(variable: usize, domain: Option<Sort>, body: Option<Sort>) -> Result<Sort, Misfit>
-    ensures { result ≡ from domain (λ s. from body (λ t. quantified_of variable s t)) }
-{
-    match (domain, body) {
-        (Some(s), Some(t)) => quantified(variable, s, t),
-        _ => Err(Misfit::Arity),
+    match s {
+        Sort::Expression { bound, .. } => Ok(Sort::Formula { past: 0, bound }),
+        Sort::Formula { .. } => Err(Misfit::Arity),
     }
 }
 
 fn combined(operator: Operator, s: Sort, t: Sort) -> Result<Sort, Misfit>
     ensures { result ≡ combined_of operator s t }
 {
-    if 0 < s.arity && 0 < t.arity && suits(operator, s.arity, t.arity) {
-        return Ok(expression(outcome(operator, s.arity, t.arity), s.bound.max(t.bound)));
-    }
-    Err(Misfit::Arity)
-}
-
-// Whether two arities fit a sign.
-fn suits(operator: Operator, a: usize, b: usize) -> bool
-    ensures { result ≡ suits_of operator a b }
-{
-    match operator {
-        Operator::Union | Operator::Difference | Operator::Intersection => a == b,
-        Operator::Product => a.saturating_add(b) <= 3,
-        Operator::Join => 3 <= a.saturating_add(b) && a.saturating_add(b) <= 5,
-    }
-}
-
-// The arity that comes of two that fit.
-fn outcome(operator: Operator, a: usize, b: usize) -> usize
-    requires { suits_of operator a b ≡ true }
-    ensures { result ≡ outcome_of operator a b }
-{
-    match operator {
-        Operator::Union | Operator::Difference | Operator::Intersection => a,
-        Operator::Product => a + b,
-        Operator::Join => a + b - 2,
+    match (s, t) {
+        (Sort::Expression { arity: a, .. }, Sort::Expression { arity: b, .. }) => {
+            let arity = operator.outcome(a, b).ok_or(Misfit::Arity)?;
+            Ok(expression(arity, s.bound().max(t.bound())))
+        }
+        _ => Err(Misfit::Arity),
     }
 }
 
 fn compared(s: Sort, t: Sort) -> Result<Sort, Misfit>
     ensures { result ≡ compared_of s t }
 {
-    if 0 < s.arity && s.arity == t.arity {
-        return Ok(formula(0, s.bound.max(t.bound)));
-    }
-    Err(Misfit::Arity)
-}
-
-// How much deeper a word is in the past.
-fn prefix_past(prefix: Prefix) -> usize
-    ensures value { result ≡ prefix_past prefix }
-    ensures few { result ≤ 1 }
-{
-    match prefix {
-        Prefix::Not | Prefix::After | Prefix::Always | Prefix::Eventually => 0,
-        Prefix::Before | Prefix::Historically | Prefix::Once => 1,
-    }
-}
-
-fn infix_past(infix: Infix) -> usize
-    ensures value { result ≡ infix_past «infix» }
-    ensures few { result ≤ 1 }
-{
-    match infix {
-        Infix::And | Infix::Or | Infix::Implies | Infix::Until => 0,
-        Infix::Since => 1,
+    match (s, t) {
+        (Sort::Expression { arity: a, .. }, Sort::Expression { arity: b, .. }) if a == b => {
+            Ok(Sort::Formula {
+                past: 0,
+                bound: s.bound().max(t.bound()),
+            })
+        }
+        _ => Err(Misfit::Arity),
     }
 }
 
@@ -259,39 +137,50 @@ fn deepened(past: usize, deeper: usize, bound: usize) -> Result<Sort, Misfit>
     ensures { result ≡ shallow_of (formula_of (past + deeper) bound) }
 {
     if past <= MOST_PAST - deeper {
-        return Ok(formula(past + deeper, bound));
+        return Ok(Sort::Formula {
+            past: past + deeper,
+            bound,
+        });
     }
     Err(Misfit::Past)
 }
 
-fn prefixed(deeper: usize, s: Sort) -> Result<Sort, Misfit>
-    requires { deeper ≤ 1 }
-    ensures { result ≡ prefixed_of deeper s }
+fn prefixed(prefix: Prefix, s: Sort) -> Result<Sort, Misfit>
+    ensures { result ≡ prefixed_of (prefix_past prefix) s }
 {
-    if s.arity == 0 {
-        return deepened(s.past, deeper, s.bound);
+    match s {
+        Sort::Formula { past, bound } => deepened(past, prefix.past(), bound),
+        Sort::Expression { .. } => Err(Misfit::Arity),
     }
-    Err(Misfit::Arity)
 }
 
-fn joined(deeper: usize, s: Sort, t: Sort) -> Result<Sort, Misfit>
-    requires { deeper ≤ 1 }
-    ensures { result ≡ joined_of deeper s t }
+fn joined(infix: Infix, s: Sort, t: Sort) -> Result<Sort, Misfit>
+    ensures { result ≡ joined_of (infix_past «infix») s t }
 {
-    if s.arity == 0 && t.arity == 0 {
-        return deepened(s.past.max(t.past), deeper, s.bound.max(t.bound));
+    match (s, t) {
+        (Sort::Formula { .. }, Sort::Formula { .. }) => deepened(
+            s.past().max(t.past()),
+            infix.past(),
+            s.bound().max(t.bound()),
+        ),
+        _ => Err(Misfit::Arity),
     }
-    Err(Misfit::Arity)
 }
 
 // A variable is used in the body only.
-fn quantified(variable: usize, s: Sort, t: Sort) -> Result<Sort, Misfit>
-    ensures { result ≡ quantified_of variable s t }
+fn quantified(variable: usize, domain: Sort, body: Sort) -> Result<Sort, Misfit>
+    ensures { result ≡ quantified_of variable domain body }
 {
-    if s.arity == 1 && t.arity == 0 && s.bound <= variable && in_scope(t.bound, variable) {
-        return Ok(formula(t.past, variable));
+    match (domain, body) {
+        (Sort::Expression { arity: 1, bound }, Sort::Formula { past, bound: inner })
+            if bound <= variable && in_scope(inner, variable) => {
+            Ok(Sort::Formula {
+                past,
+                bound: variable,
+            })
+        }
+        _ => Err(Misfit::Arity),
     }
-    Err(Misfit::Arity)
 }
 
 // Whether a variable may be bound, and a body with so many variables stand under it.

@@ -1,5 +1,5 @@
-ghost use Rattle.std.specs.Prelude.{◌≡◌, ◌-◌, ◌<◌, length};
-ghost use Rattle.problem.specs.Sorts.{arity_at, bound_at};
+ghost use Rattle.std.specs.Prelude.{◌≡◌, ◌-◌, ◌<◌, true, length};
+ghost use Rattle.problem.specs.Sorts.{is_formula, sort_at, bound_at};
 ghost use Rattle.problem.specs.Drafts.{sorts_of};
 
 use super::draft::Draft;
@@ -12,6 +12,6 @@ mod fresh;
 pub struct Problem {
     draft: Draft,
     ghost some: { 0 < length (sorts_of draft) },
-    ghost formula: { arity_at (sorts_of draft) (length (sorts_of draft) - 1) ≡ 0 },
+    ghost formula: { is_formula (sort_at (sorts_of draft) (length (sorts_of draft) - 1)) ≡ true },
     ghost closed: { bound_at (sorts_of draft) (length (sorts_of draft) - 1) ≡ 0 },
 }

@@ -7,18 +7,22 @@ mod calls;
 mod parts;
 
 // Whether a relation may differ from state to state.
-#[derive(Clone, Copy)]
+#[derive(Clone, Copy, PartialEq, Eq, Debug)]
 pub enum Mutability {
     Fixed,
     Mutable,
 }
 
 // How many atoms a tuple of a relation has.
-#[derive(Clone, Copy)]
+#[derive(Clone, Copy, PartialEq, Eq, Debug)]
 pub enum Arity {
     One,
     Two,
 }
+
+// A number of atoms that no tuple has.
+#[derive(Clone, Copy, PartialEq, Eq, Debug)]
+pub struct NotAnArity;
 
 // An atom, by its name.
 #[derive(Clone, Copy)]

@@ -22,7 +22,7 @@ impl TupleSet {
     pub fn contains(&self, tuple: usize) -> bool
         ensures { result ≡ slice_index_or self.now.held tuple false }
     {
-        is_held(&self.held, tuple)
+        self.held.get(tuple).copied().unwrap_or(false)
     }
 
     // Puts a tuple in; from 64 on nothing alters.
@@ -33,20 +33,11 @@ impl TupleSet {
     }
 }
 
-// Whether there is a true at a place; beyond the end there is none.
-fn is_held(held: &[bool], at: usize) -> bool
-    ensures { result ≡ slice_index_or held.now at false }
-{
-    if at < held.len() {
-        return held[at];
-    }
-    false
-}
-
 // Puts a true at a place; beyond the end nothing alters.
 fn hold(held: &mut [bool], at: usize)
     ensures { held.new ≡ slice_set held.old at true }
 {
+    // `get_mut` of a slice says nothing of what the slice ends as, so its length is asked.
     if at < held.len() {
         held[at] = true;
     }

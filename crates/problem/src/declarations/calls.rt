@@ -1,10 +1,10 @@
-ghost use Rattle.std.specs.Prelude.{◌≡◌, ◌<◌, ◌≤◌, [], ◌∷◌, ◌++◌, map, length, IfOk, if◌then◌else◌, nat_lt};
+ghost use Rattle.std.specs.Prelude.{◌≡◌, ◌<◌, ◌≤◌, [], ◌∷◌, ◌++◌, map, length, IfOk, is_ok, if◌then◌else◌, nat_lt};
 ghost use Rattle.names.specs.Names.{spelling};
 ghost use Rattle.problem.specs.Relations.{atom_name, relation_name, declared_of};
 ghost use Rattle.problem.specs.Declarations.{atoms_of, relations_of, declared_name};
 
 use super::super::relation::{Atom, Relation};
-use super::{Declarations, MOST_ATOMS, MOST_RELATIONS};
+use super::{Declarations, MOST_ATOMS, MOST_RELATIONS, NoRoom};
 use names::Name;
 use std::alloc::{AllocError, Global};
 
@@ -18,30 +18,30 @@ impl Declarations {
         Ok(Declarations { atoms, relations })
     }
 
-    // Declares an atom; or answers that there is no room, and then nothing alters.
-    pub fn add_atom(&mut self, name: Name) -> bool
-        ensures value { result ≡ nat_lt (length (atoms_of self.old)) 8 }
-        ensures atoms { atoms_of self.new ≡ (if result then atoms_of self.old ++ spelling name ∷ [] else atoms_of self.old) }
+    // Declares an atom; else there is no room, and nothing alters.
+    pub fn add_atom(&mut self, name: Name) -> Result<(), NoRoom>
+        ensures value { is_ok result ≡ nat_lt (length (atoms_of self.old)) 8 }
+        ensures atoms { atoms_of self.new ≡ (if is_ok result then atoms_of self.old ++ spelling name ∷ [] else atoms_of self.old) }
         ensures relations { relations_of self.new ≡ relations_of self.old }
     {
         if self.atom_count() >= MOST_ATOMS {
-            return false;
+            return Err(NoRoom);
         }
         put_atom(self, name);
-        true
+        Ok(())
     }
 
-    // Declares a relation; or answers that there is no room, and then nothing alters.
-    pub fn add_relation(&mut self, relation: Relation) -> bool
-        ensures value { result ≡ nat_lt (length (relations_of self.old)) 12 }
-        ensures relations { relations_of self.new ≡ (if result then relations_of self.old ++ declared_of relation ∷ [] else relations_of self.old) }
+    // Declares a relation; else there is no room, and nothing alters.
+    pub fn add_relation(&mut self, relation: Relation) -> Result<(), NoRoom>
+        ensures value { is_ok result ≡ nat_lt (length (relations_of self.old)) 12 }
+        ensures relations { relations_of self.new ≡ (if is_ok result then relations_of self.old ++ declared_of relation ∷ [] else relations_of self.old) }
         ensures atoms { atoms_of self.new ≡ atoms_of self.old }
     {
         if self.relation_count() >= MOST_RELATIONS {
-            return false;
+            return Err(NoRoom);
         }
         put_relation(self, relation);
-        true
+        Ok(())
     }
 
     // How many atoms there are, at most 8.

@@ -1,10 +1,11 @@
-ghost use Rattle.std.specs.Prelude.{◌≡◌, ◌<◌, ◌≤◌, true, [], ◌∷◌, ◌++◌, length, IfOk, Ok, vec_len, Decides, MatchResult};
+ghost use Rattle.std.specs.Prelude.{◌≡◌, ◌<◌, ◌≤◌, map, length, IfOk, vec_len, Decides, MatchResult};
 ghost use Rattle.std.specs.List.{slice_get};
-ghost use Rattle.problem.specs.Sorts.{judge as judge_of, placed as placed_of, of_kind, arity_at, Whole};
+ghost use Rattle.problem.specs.Sorts.{part_node, part_sort, placed as placed_of, arity_at, Whole};
 ghost use Rattle.problem.specs.Drafts.{nodes_of, sorts_of, arities_of, Begun, Put, NotPut, Kept, Last, Placed, Added};
 
-use super::super::judge::{judge, sort_at, wanted};
+use super::super::judge::{judge, wanted};
 use super::super::node::Node;
+use super::super::part::Part;
 use super::super::signature::Signature;
 use super::super::sort::{Kind, Misfit, Sort};
 use super::{Draft, MOST_PARTS, Room};
@@ -13,9 +14,8 @@ use std::alloc::{AllocError, Global};
 impl Room {
     // Asks for the memory of all nodes that a formula may have.
     pub fn new(heap: Global) -> Result<Room, AllocError> {
-        let nodes = Vec::with_capacity(heap, MOST_PARTS)?;
-        let sorts = Vec::with_capacity(heap, MOST_PARTS)?;
-        Ok(Room { nodes, sorts })
+        let parts = Vec::with_capacity(heap, MOST_PARTS)?;
+        Ok(Room { parts })
     }
 }
 
@@ -33,31 +33,30 @@ impl Draft {
         ensures kept { Kept self.old self.new }
         ensures last { IfOk result (λ i. Last kind bound self.new i) }
     {
-        match placed(self, kind, node, bound) {
-            Ok(sort) => Ok(add(self, kind, bound, node, sort)),
-            Err(misfit) => Err(misfit),
-        }
+        let sort = placed(self, kind, node, bound)?;
+        Ok(add(self, kind, bound, Part { node, sort }))
     }
 
     // The arity of a node, 0 for a formula, and 0 beyond the end.
+    #[tactic(auto, using(crate::proofs::Judging::arity_known))]
     pub fn arity(&self, node: usize) -> usize
         ensures { result ≡ arity_at (sorts_of self.now) node }
     {
-        arity_at(self.sorts.as_slice(), node)
+        self.sort(node).map_or(0, Sort::arity)
     }
 
     // What a node is; none beyond the end.
     pub fn sort(&self, node: usize) -> Option<Sort>
         ensures { result ≡ slice_get (sorts_of self.now) node }
     {
-        sort_at(self.sorts.as_slice(), node)
+        self.parts.get(node).map(|part| part.sort)
     }
 
     // Whether there is a node, and the last one is a formula that uses no variable.
     pub fn is_whole(&self) -> bool
         ensures { Decides result (Whole (sorts_of self.now)) }
     {
-        ends_whole(self.sorts.as_slice())
+        ends_whole(self.parts.as_slice())
     }
 
     pub fn signature(&self) -> &Signature
@@ -66,12 +65,14 @@ impl Draft {
         &self.signature
     }
 
-    // The nodes so far, at most 256.
-    pub fn nodes(&self) -> &[Node]
-        ensures value { result.now ≡ nodes_of self.now }
+    // The nodes so far, and what each is, at most 256.
+    pub fn parts(&self) -> &[Part]
+        ensures nodes { map part_node result.now ≡ nodes_of self.now }
+        ensures sorts { map part_sort result.now ≡ sorts_of self.now }
+        ensures len { length result.now ≡ length (nodes_of self.now) }
         ensures few { length result.now ≤ 256 }
     {
-        all_nodes(self)
+        all_parts(self)
     }
 }
 
@@ -80,26 +81,17 @@ fn begun(signature: Signature, room: Room) -> Draft
 {
     Draft {
         signature,
-        nodes: room.nodes,
-        sorts: room.sorts,
+        parts: room.parts,
     }
 }
 
-fn all_nodes(draft: &Draft) -> &[Node]
-    ensures value { result.now ≡ nodes_of draft.now }
+fn all_parts(draft: &Draft) -> &[Part]
+    ensures nodes { map part_node result.now ≡ nodes_of draft.now }
+    ensures sorts { map part_sort result.now ≡ sorts_of draft.now }
+    ensures len { length result.now ≡ length (nodes_of draft.now) }
     ensures few { length result.now ≤ 256 }
 {
-    draft.nodes.as_slice()
-}
-
-// The arity at an index, 0 beyond the end.
-fn arity_at(sorts: &[Sort], at: usize) -> usize
-    ensures { result ≡ arity_at sorts.now at }
-{
-    if at < sorts.len() {
-        return sorts[at].arity;
-    }
-    0
+    draft.parts.as_slice()
 }
 
 // What a node at the end would be.
@@ -107,7 +99,7 @@ fn placed(draft: &Draft, kind: Kind, node: Node, bound: usize) -> Result<Sort, M
     ensures value { result ≡ placed_of (arities_of draft.now) (sorts_of draft.now) kind bound node }
     ensures fits { IfOk result (λ s. Placed kind bound node draft.now s) }
 {
-    if draft.sorts.len() >= MOST_PARTS {
+    if draft.parts.len() >= MOST_PARTS {
         return Err(Misfit::Room);
     }
     fitting(draft, kind, node, bound)
@@ -115,7 +107,7 @@ fn placed(draft: &Draft, kind: Kind, node: Node, bound: usize) -> Result<Sort, M
 
 // What a node at the end would be, where there is room.
 fn fitting(draft: &Draft, kind: Kind, node: Node, bound: usize) -> Result<Sort, Misfit>
-    requires { vec_len draft.now.sorts < 256 }
+    requires { vec_len draft.now.parts < 256 }
     ensures value { result ≡ placed_of (arities_of draft.now) (sorts_of draft.now) kind bound node }
     ensures fits { IfOk result (λ s. Placed kind bound node draft.now s) }
 {
@@ -125,26 +117,26 @@ fn fitting(draft: &Draft, kind: Kind, node: Node, bound: usize) -> Result<Sort, 
         judge(
             node,
             draft.signature.declared().relations(),
-            draft.sorts.as_slice(),
+            draft.parts.as_slice(),
         ),
     )
 }
 
 // Puts a node that fits at the end.
-fn add(draft: &mut Draft, kind: Kind, bound: usize, node: Node, sort: Sort) -> usize
-    requires { Placed kind bound node draft.old sort }
-    ensures { Added kind bound node sort draft.old draft.new result }
+fn add(draft: &mut Draft, kind: Kind, bound: usize, part: Part) -> usize
+    requires { Placed kind bound part.node draft.old part.sort }
+    ensures { Added kind bound part.node part.sort draft.old draft.new result }
 {
-    let at = draft.nodes.len();
-    draft.nodes.push_reserved(node);
-    draft.sorts.push_reserved(sort);
+    let at = draft.parts.len();
+    draft.parts.push_reserved(part);
     at
 }
 
-// Whether the last of some sorts is that of a formula that uses no variable.
-fn ends_whole(sorts: &[Sort]) -> bool
-    ensures { Decides result (Whole sorts.now) }
+// Whether the last of some parts is a formula that uses no variable.
+fn ends_whole(parts: &[Part]) -> bool
+    ensures { Decides result (Whole (map part_sort parts.now)) }
 {
-    let len = sorts.len();
-    0 < len && sorts[len - 1].arity == 0 && sorts[len - 1].bound == 0
+    parts
+        .last()
+        .is_some_and(|part| matches!(part.sort, Sort::Formula { bound: 0, .. }))
 }

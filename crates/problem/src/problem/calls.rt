@@ -1,15 +1,15 @@
-ghost use Rattle.std.specs.Prelude.{◌≡◌, ◌+◌, ◌≤◌, map, length, MatchOption, slice_index};
+ghost use Rattle.std.specs.Prelude.{◌≡◌, ◌+◌, ◌≤◌, true, map, length, MatchOption, slice_index};
 ghost use Rattle.std.specs.List.{slice_get};
 ghost use Rattle.problem.specs.Relations.{atom_name, relation_name, declared_of};
 ghost use Rattle.problem.specs.Declarations.{declared_name};
 ghost use Rattle.problem.specs.Free.{free_places};
-ghost use Rattle.problem.specs.Sorts.{Whole, arity_at, bound_at};
+ghost use Rattle.problem.specs.Sorts.{part_node, part_sort, is_formula, sort_at, bound_at, Whole};
 ghost use Rattle.problem.specs.Drafts.{sorts_of};
 ghost use Rattle.problem.specs.Problems.{atoms_in, relations_in, sizes_in, horizon_of, nodes_in, sorts_in};
 
 use super::super::draft::Draft;
 use super::super::free::{free_places, size_at};
-use super::super::node::Node;
+use super::super::part::Part;
 use super::super::relation::{Atom, Relation};
 use super::super::sort::Sort;
 use super::Problem;
@@ -64,18 +64,20 @@ impl Problem {
         self.draft.signature().horizon()
     }
 
-    // The nodes of the formula, parts first.
-    pub fn nodes(&self) -> &[Node]
-        ensures value { result.now ≡ nodes_in self.now }
+    // The nodes of the formula, and what each is; the parts of a node stand before it.
+    pub fn parts(&self) -> &[Part]
+        ensures nodes { map part_node result.now ≡ nodes_in self.now }
+        ensures sorts { map part_sort result.now ≡ sorts_in self.now }
+        ensures len { length result.now ≡ length (nodes_in self.now) }
         ensures few { length result.now ≤ 256 }
     {
-        self.draft.nodes()
+        self.draft.parts()
     }
 
     // The index of the whole formula: the last node.
     pub fn root(&self) -> usize
         ensures last { result + 1 ≡ length (nodes_in self.now) }
-        ensures formula { arity_at (sorts_in self.now) result ≡ 0 }
+        ensures formula { is_formula (sort_at (sorts_in self.now) result) ≡ true }
         ensures closed { bound_at (sorts_in self.now) result ≡ 0 }
     {
         last_node(self)
@@ -108,10 +110,10 @@ fn all_atoms(problem: &Problem) -> &[Atom]
 
 fn last_node(problem: &Problem) -> usize
     ensures last { result + 1 ≡ length (nodes_in problem.now) }
-    ensures formula { arity_at (sorts_in problem.now) result ≡ 0 }
+    ensures formula { is_formula (sort_at (sorts_in problem.now) result) ≡ true }
     ensures closed { bound_at (sorts_in problem.now) result ≡ 0 }
 {
-    problem.draft.nodes().len() - 1
+    problem.draft.parts().len() - 1
 }
 
 fn count_free(problem: &Problem) -> usize

@@ -28,16 +28,15 @@ fn one_atom(heap: Global) -> Result<Declarations, AllocError>
     ensures { IfOk result (λ d. OneAtom d) }
 {
     let mut declared = Declarations::new(heap)?;
-    declared.add_atom(Name::new(b"a"));
+    let _ = declared.add_atom(Name::new(b"a"));
     Ok(declared)
 }
 
 // The formula `no none` in a draft without a node.
-fn filled(draft: Draft) -> Problem
+fn filled(mut draft: Draft) -> Problem
     requires { (sorts_of draft ≡ []) × (nodes_of draft ≡ []) }
     ensures { Filled draft result }
 {
-    let mut draft = draft;
     let _ = draft.put(Kind::Expression, Node::Constant(Constant::None), 0);
     let _ = draft.put(Kind::Formula, Node::Tested(Test::No, 0), 0);
     Problem { draft }

@@ -1,12 +1,13 @@
 ghost use Rattle.std.specs.Prelude.{◌≡◌, ◌≤◌, length, slice_index_or};
 ghost use Rattle.names.specs.Names.{spelling};
 ghost use Rattle.lasso.specs.declared.value.Value.TheVariants.{No};
-ghost use Rattle.problem.specs.Relations.{declared_of, declared, bounds_of, bound as bound_of, opens, openness as openness_of, free_in};
+ghost use Rattle.problem.specs.Relations.{declared_of, declared, bounds_of, bound as bound_of, free_in};
 
-use super::super::tuples::{MOST_TUPLES, TupleSet};
+use super::super::tuples::TupleSet;
 use super::{Arity, Mutability, Relation};
 use lasso::Value;
 use names::{Name, Named};
+use std::array;
 
 impl Relation {
     // The relation of these bounds: a tuple is in if it is in the lower set, and free if only in the upper one.
@@ -46,7 +47,7 @@ impl Relation {
     pub fn bound(&self, tuple: usize) -> Value
         ensures { result ≡ slice_index_or self.now.bounds tuple No }
     {
-        bound_at(&self.bounds, tuple)
+        self.bounds.get(tuple).copied().unwrap_or(Value::No)
     }
 
     // How many of the first tuples are free.
@@ -82,11 +83,7 @@ fn bounds_of(lower: &TupleSet, upper: &TupleSet) -> [Value; 64]
     ensures value { result ≡ bounds_of lower.now.held upper.now.held }
     ensures whole { length result ≡ 64 }
 {
-    let mut bounds = nothing();
-    'fill: for i in 0..MOST_TUPLES {
-        bounds[i] = bound_of(lower.contains(i), upper.contains(i));
-    }
-    bounds
+    array::from_fn(|i| bound_of(lower.contains(i), upper.contains(i)))
 }
 
 // How many of the first values are open.
@@ -94,48 +91,9 @@ fn first_open(values: &[Value], size: usize) -> usize
     ensures value { result ≡ free_in size values.now }
     ensures few { result ≤ length values.now }
 {
-    if size < values.len() {
-        return count_open(&values[0..size]);
-    }
-    count_open(values)
-}
-
-// How many values are open.
-fn count_open(values: &[Value]) -> usize
-    ensures value { result ≡ opens values.now }
-    ensures few { result ≤ length values.now }
-{
-    let mut count = 0;
-    'count: for value in values {
-        count += openness(*value);
-    }
-    count
-}
-
-// 1 if a value is open.
-fn openness(value: Value) -> usize
-    ensures value { result ≡ openness_of value }
-    ensures few { result ≤ 1 }
-{
-    match value {
-        Value::Open => 1,
-        Value::No | Value::Yes => 0,
-    }
-}
-
-// What a list of bounds says of a tuple; beyond its end none is in.
-fn bound_at(bounds: &[Value], tuple: usize) -> Value
-    ensures { result ≡ slice_index_or bounds.now tuple No }
-{
-    if tuple < bounds.len() {
-        return bounds[tuple];
-    }
-    Value::No
-}
-
-// So many values, each no.
-fn nothing() -> [Value; 64]
-    ensures { length result ≡ 64 }
-{
-    [Value::No; 64]
+    values
+        .iter()
+        .take(size)
+        .filter(|&&value| value == Value::Open)
+        .count()
 }

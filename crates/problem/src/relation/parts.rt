@@ -1,22 +1,27 @@
-ghost use Rattle.std.specs.Prelude.{◌≡◌};
+ghost use Rattle.std.specs.Prelude.{◌≡◌, Some};
 ghost use Rattle.names.specs.Names.{spelling};
-ghost use Rattle.problem.specs.Relations.{arity_of, arity_number};
+ghost use Rattle.problem.specs.Relations.{IsArityOf, arity_number, mutability_word};
 
-use super::{Arity, Atom};
+use super::{Arity, Atom, Mutability, NotAnArity};
 use names::{Name, Named};
+use std::fmt;
 
-impl Arity {
-    // The arity of so many atoms: one or two.
-    pub fn new(n: usize) -> Option<Arity>
-        ensures { result ≡ arity_of n }
-    {
+// The arity of so many atoms: one or two.
+impl TryFrom<usize> for Arity {
+    type Error = NotAnArity;
+
+    ghost try_from_gives = { IsArityOf };
+
+    fn try_from(n: usize) -> Result<Arity, NotAnArity> {
         match n {
-            1 => Some(Arity::One),
-            2 => Some(Arity::Two),
-            _ => None,
+            1 => Ok(Arity::One),
+            2 => Ok(Arity::Two),
+            _ => Err(NotAnArity),
         }
     }
+}
 
+impl Arity {
     // How many atoms a tuple has.
     pub fn number(self) -> usize
         ensures { result ≡ arity_number self }
@@ -25,6 +30,17 @@ impl Arity {
             Arity::One => 1,
             Arity::Two => 2,
         }
+    }
+}
+
+impl fmt::Display for Mutability {
+    ghost output = { λ m. Some (mutability_word m) };
+
+    fn fmt<W: fmt::Write>(&self, f: &mut fmt::Formatter<W>) -> fmt::Result {
+        f.write_str(match self {
+            Mutability::Fixed => "fixed",
+            Mutability::Mutable => "mutable",
+        })
     }
 }
 

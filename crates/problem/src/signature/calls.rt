@@ -12,10 +12,8 @@ impl Signature {
     pub fn new(declared: Declarations, horizon: usize) -> Result<Signature, Unfit>
         ensures { MatchResult result (λ s. Fits declared horizon s) (λ u. fitness_of (atoms_of declared) (relations_of declared) horizon ≡ Some u) }
     {
-        match fitness(&declared, horizon) {
-            Some(unfit) => Err(unfit),
-            None => Ok(Signature { declared, horizon }),
-        }
+        fitness(&declared, horizon)?;
+        Ok(Signature { declared, horizon })
     }
 
     // The atoms and relations.
@@ -35,18 +33,18 @@ impl Signature {
     }
 }
 
-// Why declarations and a horizon do not go together, if so.
-fn fitness(declared: &Declarations, horizon: usize) -> Option<Unfit>
-    ensures { result ≡ fitness_of (atoms_of declared.now) (relations_of declared.now) horizon }
+// Whether declarations and a horizon go together, or why not.
+fn fitness(declared: &Declarations, horizon: usize) -> Result<(), Unfit>
+    ensures { MatchResult result (λ _. fitness_of (atoms_of declared.now) (relations_of declared.now) horizon ≡ None) (λ u. fitness_of (atoms_of declared.now) (relations_of declared.now) horizon ≡ Some u) }
 {
     let atoms = declared.atom_count();
     if atoms == 0 || horizon == 0 || horizon > MOST_HORIZON {
-        return Some(Unfit::Limit);
+        return Err(Unfit::Limit);
     }
     if free_places(declared.relations(), atoms, horizon) > MOST_FREE {
-        return Some(Unfit::FreePlaces);
+        return Err(Unfit::FreePlaces);
     }
-    None
+    Ok(())
 }
 
 // The declarations with a horizon of one state.

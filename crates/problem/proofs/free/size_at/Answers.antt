@@ -1,17 +1,18 @@
-use Rattle.std.proofs.Common.{sym, ap, ◌∙◌, lit≤}
-use Rattle.problem.specs.declared.relation.Relation.{Relation}
+use Rattle.std.proofs.Common.{◌≡◌, rules, sym, ◌∙◌}
+use Rattle.std.proofs.lemmas.Option.{MatchOption-at_none, MatchOption-at_some}
 use Rattle.problem.specs.Free.{size_of}
-use Rattle.problem.proofs.Nths.{size_is, no_size}
+use Rattle.problem.proofs.Nths.{no_size, size_got, matched}
 use Rattle.problem.proofs.free.size_at.Goals as goal
 
-pub returns-then-at-relations : goal.returns-then-at-relations
-returns-then-at-relations c =
+pub returns-clause-value : goal.returns-clause-value
+returns-clause-value c =
     let n = c.args.atoms in
-    let x = c.index-relations-at.result in
-    record {
-      value = c.size_of.ensures.value ∙ ap (size_of n) c.arity.ensures ∙ ap (λ (r : Relation). size_of n r.arity) c.index-relations-at.is ∙ sym (size_is n c.args.relations.now c.args.at x c.if-at-relations.true);
-      few = c.size_of.ensures.few;
-    }
-
-pub returns : goal.returns
-returns c = record { value = sym (no_size c.args.atoms c.args.relations.now c.args.at c.if-at-relations.false); few = lit≤ tt }
+    let rs = c.args.relations.now in
+    let i = c.args.at in
+    matched c.get.result _ _ _ c.map_or.ensures
+    (λ e p. p ∙ sym (no_size n rs i (MatchOption-at_none _ _ e c.get.ensures.lookup.3)))
+    (λ x e q.
+    let l = MatchOption-at_some _ _ x e c.get.ensures.lookup.3 in
+    let v = MatchOption-at_some _ _ x e c.get.ensures.lookup.1 in
+    let z : c.map_or.result ≡ size_of n x.now.arity = search rules in
+    z ∙ sym (size_got n rs i x.now l.0 v))

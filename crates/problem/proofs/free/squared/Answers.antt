@@ -1,5 +1,0 @@
-use Rattle.std.proofs.Common.{refl, mul-le-mul}
-use Rattle.problem.proofs.free.squared.Goals as goal
-
-pub returns : goal.returns
-returns c = record { value = refl; few = mul-le-mul c.requires c.requires }
