@@ -1,7 +1,7 @@
 -- What each node is found to be, one node more at a time.
-use Rattle.std.proofs.Common.{◌≡◌, ℕ, zero, suc, ◌+◌, ◌<◌, ◌≤◌, Bool, true, false, cond, ◌&&◌, leb, List, [], ◌∷◌, ◌++◌, length, take, IfOk, Ok, Err, Result, sym, refl, ap, ◌∙◌, inl, inr, arith, eq-eqb, leb-true}
+use Rattle.std.proofs.Common.{◌≡◌, ℕ, zero, suc, ◌+◌, ◌<◌, ◌≤◌, Bool, true, false, cond, ◌&&◌, leb, List, [], ◌∷◌, ◌++◌, length, map, take, IfOk, Ok, Err, Result, sym, refl, ap, ◌∙◌, subst, inl, inr, arith, eq-eqb, leb-true}
 use Rattle.std.proofs.lemmas.Bool.{cases_lt}
-use Rattle.std.proofs.lemmas.List.{take-append-le, take_at, get_or_append_left, get_or_push, length_push}
+use Rattle.std.proofs.lemmas.List.{take-append-le, take_at, get_or_append_left, get_or_push, length_push, length-map, map_push}
 use Rattle.std.specs.List.{slice_get}
 use Rattle.std.specs.Option.{option_map_or}
 use Rattle.problem.specs.declared.node.Node.{Node}
@@ -10,8 +10,9 @@ use Rattle.problem.specs.declared.sort.Sort.{Sort}
 use Rattle.problem.specs.declared.sort.Sort.TheVariants as sort
 use Rattle.problem.specs.declared.sort.Kind.{Kind}
 use Rattle.problem.specs.declared.sort.Misfit.{Misfit}
+use Rattle.problem.specs.declared.part.Part.{Part}
 use Rattle.problem.specs.declared.draft.Draft.{Draft}
-use Rattle.problem.specs.Sorts.{judge, found, node_at, sort_at, no_sort, Judged, arity_at, sort_arity, sort_bound, of_kind, wanted, most_parts}
+use Rattle.problem.specs.Sorts.{part_node, part_sort, judge, found, node_at, sort_at, no_sort, Judged, arity_at, sort_arity, sort_bound, of_kind, wanted, most_parts}
 use Rattle.problem.specs.Drafts.{sorts_of, arities_of, Placed}
 
 both : (a b : Bool) → a ≡ true → b ≡ true → (a && b) ≡ true
@@ -22,7 +23,7 @@ pub found_self : (s : Sort) → found (Ok s) s ≡ true
 found_self (sort.Expression a b) = both _ _ (eq-eqb a a refl) (eq-eqb b b refl)
 found_self (sort.Formula p b) = both _ _ (eq-eqb p p refl) (eq-eqb b b refl)
 
-pub judged_more : (rs : List ℕ) (ns : List Node) (ss : List Sort) (n : Node) (s : Sort) → length ss ≡ length ns → Judged rs ns ss → judge rs ss n ≡ Ok s → Judged rs (ns ++ n ∷ []) (ss ++ s ∷ [])
+judged_more : (rs : List ℕ) (ns : List Node) (ss : List Sort) (n : Node) (s : Sort) → length ss ≡ length ns → Judged rs ns ss → judge rs ss n ≡ Ok s → Judged rs (ns ++ n ∷ []) (ss ++ s ∷ [])
 judged_more rs ns ss n s e J j i h =
     let ns' : List Node = ns ++ n ∷ [] in
     let ss' : List Sort = ss ++ s ∷ [] in
@@ -38,6 +39,12 @@ judged_more rs ns ss n s e J j i h =
           ∙ ap (λ x. found x s) j
           ∙ found_self s
     ]
+
+pub judged_parts : (rs : List ℕ) (ps : List Part) (p : Part) → Judged rs (map part_node ps) (map part_sort ps) → judge rs (map part_sort ps) p.node ≡ Ok p.sort → Judged rs (map part_node (ps ++ p ∷ [])) (map part_sort (ps ++ p ∷ []))
+judged_parts rs ps p J e =
+    let K = judged_more rs (map part_node ps) (map part_sort ps) p.node p.sort (length-map ps part_sort ∙ sym (length-map ps part_node)) J e in
+    let L = subst (λ (ss : List Sort). Judged rs (map part_node ps ++ p.node ∷ []) ss) (sym (map_push part_sort ps p)) K in
+    subst (λ (ns : List Node). Judged rs ns (map part_sort (ps ++ p ∷ []))) (sym (map_push part_node ps p)) L
 
 record Fitted (x y : Bool) (t s : Sort) : Type 0 where
   pub first : x ≡ true

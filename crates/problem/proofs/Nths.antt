@@ -27,13 +27,14 @@ no_size n [] i h = refl
 no_size n (r ∷ rs) zero h = absurd (omega arith)
 no_size n (r ∷ rs) (suc i) h = no_size n rs i (omega arith)
 
--- the same, by the relation that was read
+-- the same, by the relation that was read there
 pub arity_got : (rs : List Relation) (i : ℕ) (r : Relation) → i < length rs → r ≡ get_or rs i r → slice_get (arities (map declared_of rs)) i ≡ Some (arity_number r.arity)
 arity_got rs i r h e = nth_arities rs i r h ∙ ap (λ (x : Relation). Some (arity_number x.arity)) (sym e)
 
 pub size_got : (n : ℕ) (rs : List Relation) (i : ℕ) (r : Relation) → i < length rs → r ≡ get_or rs i r → get_or (sizes n (map declared_of rs)) i 0 ≡ size_of n r.arity
 size_got n rs i r h e = size_is n rs i r h ∙ ap (λ (x : Relation). size_of n x.arity) (sym e)
 
+-- what is shown of a default and of a function of what is there is shown of `map_or`
 pub matched : {T : Type 0} (o : Option T) (P : Type 0) (Q : T → Type 0) (G : Type 0) → MatchOption o P Q → (o ≡ None → P → G) → ((x : T) → o ≡ Some x → Q x → G) → G
 matched None P Q G m n s = n refl m
 matched (Some x) P Q G m n s = s x refl m

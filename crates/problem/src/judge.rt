@@ -1,4 +1,4 @@
-ghost use Rattle.std.specs.Prelude.{◌≡◌, suc, ◌+◌, ◌≤◌, None, MatchResult, ◌&&◌, map, nat_le, nat_lt};
+ghost use Rattle.std.specs.Prelude.{◌≡◌, ◌+◌, ◌≤◌, None, MatchResult, map};
 ghost use Rattle.std.specs.List.{slice_get};
 ghost use Rattle.problem.specs.declared.sort.Misfit.TheVariants.{Arity};
 ghost use Rattle.problem.specs.Relations.{declared_of};
@@ -173,7 +173,7 @@ fn quantified(variable: usize, domain: Sort, body: Sort) -> Result<Sort, Misfit>
 {
     match (domain, body) {
         (Sort::Expression { arity: 1, bound }, Sort::Formula { past, bound: inner })
-            if bound <= variable && in_scope(inner, variable) => {
+            if variable < MOST_VARIABLES && bound <= variable && inner <= variable + 1 => {
             Ok(Sort::Formula {
                 past,
                 bound: variable,
@@ -181,11 +181,4 @@ fn quantified(variable: usize, domain: Sort, body: Sort) -> Result<Sort, Misfit>
         }
         _ => Err(Misfit::Arity),
     }
-}
-
-// Whether a variable may be bound, and a body with so many variables stand under it.
-fn in_scope(bound: usize, variable: usize) -> bool
-    ensures { result ≡ (nat_le bound (suc variable) && nat_lt variable 4) }
-{
-    variable < MOST_VARIABLES && bound <= variable + 1
 }

@@ -1,4 +1,4 @@
-ghost use Rattle.std.specs.Prelude.{◌≡◌, true, false, length, set, replicate, slice_index_or, slice_set};
+ghost use Rattle.std.specs.Prelude.{◌≡◌, true, false, length, replicate, slice_index_or, slice_set};
 
 // The most tuples of a relation: pairs of eight atoms.
 pub const MOST_TUPLES: usize = 64;

@@ -1,4 +1,4 @@
-ghost use Rattle.std.specs.Prelude.{◌≡◌, ◌<◌, ◌≤◌, [], ◌∷◌, ◌++◌, map, length, IfOk, is_ok, if◌then◌else◌, nat_lt};
+ghost use Rattle.std.specs.Prelude.{◌≡◌, ◌≤◌, [], ◌∷◌, ◌++◌, map, length, IfOk, is_ok, if◌then◌else◌, nat_lt};
 ghost use Rattle.names.specs.Names.{spelling};
 ghost use Rattle.problem.specs.Relations.{atom_name, relation_name, declared_of};
 ghost use Rattle.problem.specs.Declarations.{atoms_of, relations_of, declared_name};
@@ -27,7 +27,7 @@ impl Declarations {
         if self.atom_count() >= MOST_ATOMS {
             return Err(NoRoom);
         }
-        put_atom(self, name);
+        self.atoms.push_reserved(Atom::new(name));
         Ok(())
     }
 
@@ -40,7 +40,7 @@ impl Declarations {
         if self.relation_count() >= MOST_RELATIONS {
             return Err(NoRoom);
         }
-        put_relation(self, relation);
+        self.relations.push_reserved(relation);
         Ok(())
     }
 
@@ -49,7 +49,7 @@ impl Declarations {
         ensures value { result ≡ length (atoms_of self.now) }
         ensures few { result ≤ 8 }
     {
-        count_atoms(self)
+        self.atoms.len()
     }
 
     // How many relations there are, at most 12.
@@ -57,7 +57,7 @@ impl Declarations {
         ensures value { result ≡ length (relations_of self.now) }
         ensures few { result ≤ 12 }
     {
-        count_relations(self)
+        self.relations.len()
     }
 
     // The atoms, by their numbers.
@@ -66,69 +66,17 @@ impl Declarations {
         ensures len { length result.now ≡ length (atoms_of self.now) }
         ensures few { length result.now ≤ 8 }
     {
-        all_atoms(self)
+        self.atoms.as_slice()
     }
 
     // The relations, by their numbers.
+    #[tactic(auto, using(crate::proofs::Maps::names_of))]
     pub fn relations(&self) -> &[Relation]
         ensures value { map declared_of result.now ≡ relations_of self.now }
         ensures names { map relation_name result.now ≡ map declared_name (relations_of self.now) }
         ensures len { length result.now ≡ length (relations_of self.now) }
         ensures few { length result.now ≤ 12 }
     {
-        all_relations(self)
+        self.relations.as_slice()
     }
-}
-
-// As many as there are atoms.
-fn count_atoms(declared: &Declarations) -> usize
-    ensures value { result ≡ length (atoms_of declared.now) }
-    ensures few { result ≤ 8 }
-{
-    declared.atoms.len()
-}
-
-// As many as there are relations.
-fn count_relations(declared: &Declarations) -> usize
-    ensures value { result ≡ length (relations_of declared.now) }
-    ensures few { result ≤ 12 }
-{
-    declared.relations.len()
-}
-
-// The atoms as one slice.
-fn all_atoms(declared: &Declarations) -> &[Atom]
-    ensures names { map atom_name result.now ≡ atoms_of declared.now }
-    ensures len { length result.now ≡ length (atoms_of declared.now) }
-    ensures few { length result.now ≤ 8 }
-{
-    declared.atoms.as_slice()
-}
-
-// The relations as one slice.
-fn all_relations(declared: &Declarations) -> &[Relation]
-    ensures value { map declared_of result.now ≡ relations_of declared.now }
-    ensures names { map relation_name result.now ≡ map declared_name (relations_of declared.now) }
-    ensures len { length result.now ≡ length (relations_of declared.now) }
-    ensures few { length result.now ≤ 12 }
-{
-    declared.relations.as_slice()
-}
-
-// Declares an atom where there is room.
-fn put_atom(declared: &mut Declarations, name: Name)
-    requires { length (atoms_of declared.old) < 8 }
-    ensures atoms { atoms_of declared.new ≡ atoms_of declared.old ++ spelling name ∷ [] }
-    ensures relations { relations_of declared.new ≡ relations_of declared.old }
-{
-    declared.atoms.push_reserved(Atom::new(name));
-}
-
-// Declares a relation where there is room.
-fn put_relation(declared: &mut Declarations, relation: Relation)
-    requires { length (relations_of declared.old) < 12 }
-    ensures relations { relations_of declared.new ≡ relations_of declared.old ++ declared_of relation ∷ [] }
-    ensures atoms { atoms_of declared.new ≡ atoms_of declared.old }
-{
-    declared.relations.push_reserved(relation);
 }

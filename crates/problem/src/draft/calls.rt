@@ -1,4 +1,4 @@
-ghost use Rattle.std.specs.Prelude.{◌≡◌, ◌<◌, ◌≤◌, map, length, IfOk, vec_len, Decides, MatchResult};
+ghost use Rattle.std.specs.Prelude.{◌≡◌, ◌≤◌, map, length, IfOk, Decides, MatchResult};
 ghost use Rattle.std.specs.List.{slice_get};
 ghost use Rattle.problem.specs.Sorts.{part_node, part_sort, placed as placed_of, arity_at, Whole};
 ghost use Rattle.problem.specs.Drafts.{nodes_of, sorts_of, arities_of, Begun, Put, NotPut, Kept, Last, Placed, Added};
@@ -24,7 +24,10 @@ impl Draft {
     pub fn new(signature: Signature, room: Room) -> Draft
         ensures { Begun signature result }
     {
-        begun(signature, room)
+        Draft {
+            signature,
+            parts: room.parts,
+        }
     }
 
     // Puts a node at the end if it fits, is of that kind, and uses at most so many variables; else nothing alters.
@@ -56,7 +59,9 @@ impl Draft {
     pub fn is_whole(&self) -> bool
         ensures { Decides result (Whole (sorts_of self.now)) }
     {
-        ends_whole(self.parts.as_slice())
+        self.parts
+            .last()
+            .is_some_and(|part| matches!(part.sort, Sort::Formula { bound: 0, .. }))
     }
 
     pub fn signature(&self) -> &Signature
@@ -72,29 +77,12 @@ impl Draft {
         ensures len { length result.now ≡ length (nodes_of self.now) }
         ensures few { length result.now ≤ 256 }
     {
-        all_parts(self)
+        self.parts.as_slice()
     }
-}
-
-fn begun(signature: Signature, room: Room) -> Draft
-    ensures { Begun signature result }
-{
-    Draft {
-        signature,
-        parts: room.parts,
-    }
-}
-
-fn all_parts(draft: &Draft) -> &[Part]
-    ensures nodes { map part_node result.now ≡ nodes_of draft.now }
-    ensures sorts { map part_sort result.now ≡ sorts_of draft.now }
-    ensures len { length result.now ≡ length (nodes_of draft.now) }
-    ensures few { length result.now ≤ 256 }
-{
-    draft.parts.as_slice()
 }
 
 // What a node at the end would be.
+#[tactic(auto, using(crate::proofs::Judging::fits_made))]
 fn placed(draft: &Draft, kind: Kind, node: Node, bound: usize) -> Result<Sort, Misfit>
     ensures value { result ≡ placed_of (arities_of draft.now) (sorts_of draft.now) kind bound node }
     ensures fits { IfOk result (λ s. Placed kind bound node draft.now s) }
@@ -102,24 +90,12 @@ fn placed(draft: &Draft, kind: Kind, node: Node, bound: usize) -> Result<Sort, M
     if draft.parts.len() >= MOST_PARTS {
         return Err(Misfit::Room);
     }
-    fitting(draft, kind, node, bound)
-}
-
-// What a node at the end would be, where there is room.
-fn fitting(draft: &Draft, kind: Kind, node: Node, bound: usize) -> Result<Sort, Misfit>
-    requires { vec_len draft.now.parts < 256 }
-    ensures value { result ≡ placed_of (arities_of draft.now) (sorts_of draft.now) kind bound node }
-    ensures fits { IfOk result (λ s. Placed kind bound node draft.now s) }
-{
-    wanted(
-        kind,
-        bound,
-        judge(
-            node,
-            draft.signature.declared().relations(),
-            draft.parts.as_slice(),
-        ),
-    )
+    let judged = judge(
+        node,
+        draft.signature.declared().relations(),
+        draft.parts.as_slice(),
+    );
+    wanted(kind, bound, judged)
 }
 
 // Puts a node that fits at the end.
@@ -130,13 +106,4 @@ fn add(draft: &mut Draft, kind: Kind, bound: usize, part: Part) -> usize
     let at = draft.parts.len();
     draft.parts.push_reserved(part);
     at
-}
-
-// Whether the last of some parts is a formula that uses no variable.
-fn ends_whole(parts: &[Part]) -> bool
-    ensures { Decides result (Whole (map part_sort parts.now)) }
-{
-    parts
-        .last()
-        .is_some_and(|part| matches!(part.sort, Sort::Formula { bound: 0, .. }))
 }

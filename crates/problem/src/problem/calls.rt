@@ -8,7 +8,7 @@ ghost use Rattle.problem.specs.Drafts.{sorts_of};
 ghost use Rattle.problem.specs.Problems.{atoms_in, relations_in, sizes_in, horizon_of, nodes_in, sorts_in};
 
 use super::super::draft::Draft;
-use super::super::free::{free_places, size_at};
+use super::super::free::Scope;
 use super::super::part::Part;
 use super::super::relation::{Atom, Relation};
 use super::super::sort::Sort;
@@ -34,7 +34,7 @@ impl Problem {
         ensures some { 1 ≤ length result.now }
         ensures few { length result.now ≤ 8 }
     {
-        all_atoms(self)
+        self.draft.signature().declared().atoms()
     }
 
     // The relations, at most 12, by their numbers.
@@ -52,7 +52,7 @@ impl Problem {
         ensures value { result ≡ slice_index (sizes_in self.now) relation }
         ensures few { result ≤ 64 }
     {
-        size_in(self, relation)
+        Scope::new(self.atoms().len(), self.horizon()).size_at(self.relations(), relation)
     }
 
     // The most states of a trace that is searched for, 1 to 8.
@@ -80,7 +80,7 @@ impl Problem {
         ensures formula { is_formula (sort_at (sorts_in self.now) result) ≡ true }
         ensures closed { bound_at (sorts_in self.now) result ≡ 0 }
     {
-        last_node(self)
+        self.parts().len() - 1
     }
 
     // What a node is; none beyond the end.
@@ -95,41 +95,6 @@ impl Problem {
         ensures value { result ≡ free_places (length (atoms_in self.now)) (relations_in self.now) (horizon_of self.now) }
         ensures few { result ≤ 256 }
     {
-        count_free(self)
+        Scope::new(self.atoms().len(), self.horizon()).free_places(self.relations())
     }
-}
-
-fn all_atoms(problem: &Problem) -> &[Atom]
-    ensures names { map atom_name result.now ≡ atoms_in problem.now }
-    ensures len { length result.now ≡ length (atoms_in problem.now) }
-    ensures some { 1 ≤ length result.now }
-    ensures few { length result.now ≤ 8 }
-{
-    problem.draft.signature().declared().atoms()
-}
-
-fn last_node(problem: &Problem) -> usize
-    ensures last { result + 1 ≡ length (nodes_in problem.now) }
-    ensures formula { is_formula (sort_at (sorts_in problem.now) result) ≡ true }
-    ensures closed { bound_at (sorts_in problem.now) result ≡ 0 }
-{
-    problem.draft.parts().len() - 1
-}
-
-fn count_free(problem: &Problem) -> usize
-    ensures value { result ≡ free_places (length (atoms_in problem.now)) (relations_in problem.now) (horizon_of problem.now) }
-    ensures few { result ≤ 256 }
-{
-    free_places(
-        problem.relations(),
-        problem.atoms().len(),
-        problem.horizon(),
-    )
-}
-
-fn size_in(problem: &Problem, relation: usize) -> usize
-    ensures value { result ≡ slice_index (sizes_in problem.now) relation }
-    ensures few { result ≤ 64 }
-{
-    size_at(problem.relations(), problem.atoms().len(), relation)
 }

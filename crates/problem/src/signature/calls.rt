@@ -1,10 +1,10 @@
-ghost use Rattle.std.specs.Prelude.{◌≡◌, ◌≤◌, true, false, length, Some, None, MatchResult};
+ghost use Rattle.std.specs.Prelude.{◌≡◌, ◌≤◌, Some, None, MatchResult};
 ghost use Rattle.problem.specs.Declarations.{atoms_of, relations_of, OneAtom};
 ghost use Rattle.problem.specs.Free.{fitness as fitness_of, free_places};
 ghost use Rattle.problem.specs.Signatures.{Fits};
 
 use super::super::declarations::Declarations;
-use super::super::free::free_places;
+use super::super::free::Scope;
 use super::{MOST_FREE, MOST_HORIZON, Signature, Unfit};
 
 impl Signature {
@@ -41,7 +41,7 @@ fn fitness(declared: &Declarations, horizon: usize) -> Result<(), Unfit>
     if atoms == 0 || horizon == 0 || horizon > MOST_HORIZON {
         return Err(Unfit::Limit);
     }
-    if free_places(declared.relations(), atoms, horizon) > MOST_FREE {
+    if Scope::new(atoms, horizon).free_places(declared.relations()) > MOST_FREE {
         return Err(Unfit::FreePlaces);
     }
     Ok(())
