@@ -1,6 +1,7 @@
 -- What a node of a formula is made of, what sort it has, and the tree that it stands for.
-use Rattle.std.proofs.Common.{◌≡◌, ℕ, zero, suc, ◌+◌, ◌<◌, ◌≤◌, max, Bool, true, false, cond, ltb, leb, List, length, take, slice_get, slice_index, Some, None, Ok, Err, Option, Result, vec_len, sym, refl, ap, ap₂, ◌∙◌, arith, eqb-true, ltb-true, leb-true, get_or-take, length-take}
+use Rattle.std.proofs.Common.{◌≡◌, ℕ, zero, suc, ◌+◌, ◌<◌, ◌≤◌, max, Bool, true, false, cond, ltb, List, length, take, slice_get, slice_index, Some, None, Ok, Err, Option, Result, sym, refl, ap, ap₂, ◌∙◌, arith, eqb-true, ltb-true, leb-true, get_or-take, length-take}
 use Rattle.std.proofs.lemmas.Bool.{and_parts}
+use Rattle.std.proofs.lemmas.List.{length-map}
 use Rattle.std.proofs.lemmas.Option.{slice_get_within, get_or_from_slice_get}
 use Rattle.problem.specs.declared.node.Node.{Node}
 use Rattle.problem.specs.declared.node.Node.TheVariants as node
@@ -13,8 +14,9 @@ use Rattle.problem.specs.declared.node.Prefix.{Prefix}
 use Rattle.problem.specs.declared.node.Infix.{Infix}
 use Rattle.problem.specs.declared.node.Quantifier.{Quantifier}
 use Rattle.problem.specs.declared.sort.Sort.{Sort}
+use Rattle.problem.specs.declared.sort.Sort.TheVariants as sort
 use Rattle.problem.specs.declared.sort.Misfit.{Misfit}
-use Rattle.problem.specs.Sorts.{most_past, most_variables, expression, formula, from, constant_arity, suits, outcome, prefix_past, infix_past, shallow, relation_sort, judge, Judged, found, no_sort, node_at, sort_at, arity_at, bound_at}
+use Rattle.problem.specs.Sorts.{most_past, most_variables, sort_arity, sort_past, sort_bound, is_expression, is_formula, part_node, part_sort, expression, formula, from, constant_arity, suits, outcome, prefix_past, infix_past, shallow, relation_sort, judge, Judged, found, no_sort, node_at, sort_at, arity_at, bound_at}
 use Rattle.problem.specs.Sorts as sorts
 use Rattle.problem.specs.declared.problem.Problem.{Problem}
 use Rattle.problem.specs.Problems.{nodes_in, sorts_in}
@@ -29,7 +31,7 @@ pub record Sorted (s : Places) (ns : List Node) (ss : List Sort) : Type 0 where
 
 pub sorted_in : (p : Problem) → Sorted (places_in p) (nodes_in p) (sorts_in p)
 sorted_in p = record {
-  even = let e : vec_len p.draft.sorts ≡ vec_len p.draft.nodes = p.draft.even in omega arith;
+  even = length-map p.draft.parts.items part_sort ∙ sym (length-map p.draft.parts.items part_node);
   judged = p.draft.judged;
 }
 
@@ -41,16 +43,13 @@ fits : (b : Bool) (x y : Sort) (m : Misfit) → cond b (Ok x) (Err m) ≡ Ok y �
 fits true x y m e = record { met = refl; same = cc }
 fits false x y m e = absurd (cc)
 
-same_sort : (x y : Sort) → x.arity ≡ y.arity → x.past ≡ y.past → x.bound ≡ y.bound → x ≡ y
-same_sort x y p q r =
-    let mk : ℕ → ℕ → ℕ → Sort = λ a b c. record { arity = a; past = b; bound = c } in
-    ap (λ a. mk a x.past x.bound) p ∙ ap (λ b. mk y.arity b x.bound) q ∙ ap (λ c. mk y.arity y.past c) r
-
 found_inv : (r : Result Sort Misfit) (t : Sort) → found r t ≡ true → r ≡ Ok t
-found_inv (Ok x) t e =
-    let a = and_parts _ _ e in
-    let b = and_parts _ _ a.1 in
-    ap Ok (same_sort x t (eqb-true _ _ a.0) (eqb-true _ _ b.0) (eqb-true _ _ b.1))
+found_inv (Ok (sort.Expression a b)) (sort.Expression c d) e =
+    let z = and_parts _ _ e in ap₂ (λ x y. Ok (expression x y)) (eqb-true _ _ z.0) (eqb-true _ _ z.1)
+found_inv (Ok (sort.Expression a b)) (sort.Formula q d) e = absurd (cc)
+found_inv (Ok (sort.Formula p b)) (sort.Expression c d) e = absurd (cc)
+found_inv (Ok (sort.Formula p b)) (sort.Formula q d) e =
+    let z = and_parts _ _ e in ap₂ (λ x y. Ok (formula x y)) (eqb-true _ _ z.0) (eqb-true _ _ z.1)
 found_inv (Err m) t e = absurd (cc)
 
 from_inv : (o : Option Sort) (k : Sort → Result Sort Misfit) (t : Sort) → from o k ≡ Ok t → (x : Sort) × (o ≡ Some x) × (k x ≡ Ok t)
@@ -170,6 +169,7 @@ module _ (s : Places) (ns : List Node) (ss : List Sort) (i : ℕ) where
 
   pub record TurnedAt (t : Turn) (a : ℕ) : Type 0 where
     pub before : a < i
+    pub some : is_expression (sort_at ss a) ≡ true
     pub pairs : arity_at ss a ≡ 2
     pub own : arity_at ss i ≡ 2
     pub past : past_at ss i ≡ 0
@@ -178,7 +178,7 @@ module _ (s : Places) (ns : List Node) (ss : List Sort) (i : ℕ) where
 
   pub record NextAt (a : ℕ) : Type 0 where
     pub before : a < i
-    pub some : 0 < arity_at ss a
+    pub some : is_expression (sort_at ss a) ≡ true
     pub own : arity_at ss i ≡ arity_at ss a
     pub past : past_at ss i ≡ 0
     pub bound : bound_at ss i ≡ bound_at ss a
@@ -187,8 +187,8 @@ module _ (s : Places) (ns : List Node) (ss : List Sort) (i : ℕ) where
   pub record CombinedAt (o : Operator) (a b : ℕ) : Type 0 where
     pub left : a < i
     pub right : b < i
-    pub some_left : 0 < arity_at ss a
-    pub some_right : 0 < arity_at ss b
+    pub some_left : is_expression (sort_at ss a) ≡ true
+    pub some_right : is_expression (sort_at ss b) ≡ true
     pub suited : suits o (arity_at ss a) (arity_at ss b) ≡ true
     pub own : arity_at ss i ≡ outcome o (arity_at ss a) (arity_at ss b)
     pub past : past_at ss i ≡ 0
@@ -197,8 +197,8 @@ module _ (s : Places) (ns : List Node) (ss : List Sort) (i : ℕ) where
 
   pub record TestedAt (q : Test) (a : ℕ) : Type 0 where
     pub before : a < i
-    pub some : 0 < arity_at ss a
-    pub own : arity_at ss i ≡ 0
+    pub some : is_expression (sort_at ss a) ≡ true
+    pub own : is_formula (sort_at ss i) ≡ true
     pub past : past_at ss i ≡ 0
     pub bound : bound_at ss i ≡ bound_at ss a
     pub tree : formula_tree s ns i ≡ tested q (expr_tree s ns a)
@@ -206,17 +206,18 @@ module _ (s : Places) (ns : List Node) (ss : List Sort) (i : ℕ) where
   pub record ComparedAt (c : Comparison) (a b : ℕ) : Type 0 where
     pub left : a < i
     pub right : b < i
-    pub some : 0 < arity_at ss a
+    pub some_left : is_expression (sort_at ss a) ≡ true
+    pub some_right : is_expression (sort_at ss b) ≡ true
     pub alike : arity_at ss a ≡ arity_at ss b
-    pub own : arity_at ss i ≡ 0
+    pub own : is_formula (sort_at ss i) ≡ true
     pub past : past_at ss i ≡ 0
     pub bound : bound_at ss i ≡ max (bound_at ss a) (bound_at ss b)
     pub tree : formula_tree s ns i ≡ compared c (expr_tree s ns a) (expr_tree s ns b)
 
   pub record PrefixedAt (w : Prefix) (a : ℕ) : Type 0 where
     pub before : a < i
-    pub formula : arity_at ss a ≡ 0
-    pub own : arity_at ss i ≡ 0
+    pub formula : is_formula (sort_at ss a) ≡ true
+    pub own : is_formula (sort_at ss i) ≡ true
     pub past : past_at ss i ≡ past_at ss a + prefix_past w
     pub shallow : past_at ss a + prefix_past w ≤ most_past
     pub bound : bound_at ss i ≡ bound_at ss a
@@ -225,9 +226,9 @@ module _ (s : Places) (ns : List Node) (ss : List Sort) (i : ℕ) where
   pub record JoinedAt (w : Infix) (a b : ℕ) : Type 0 where
     pub left : a < i
     pub right : b < i
-    pub left_formula : arity_at ss a ≡ 0
-    pub right_formula : arity_at ss b ≡ 0
-    pub own : arity_at ss i ≡ 0
+    pub left_formula : is_formula (sort_at ss a) ≡ true
+    pub right_formula : is_formula (sort_at ss b) ≡ true
+    pub own : is_formula (sort_at ss i) ≡ true
     pub past : past_at ss i ≡ max (past_at ss a) (past_at ss b) + infix_past w
     pub shallow : max (past_at ss a) (past_at ss b) + infix_past w ≤ most_past
     pub bound : bound_at ss i ≡ max (bound_at ss a) (bound_at ss b)
@@ -236,24 +237,16 @@ module _ (s : Places) (ns : List Node) (ss : List Sort) (i : ℕ) where
   pub record QuantifiedAt (q : Quantifier) (v a b : ℕ) : Type 0 where
     pub domain : a < i
     pub body : b < i
+    pub some : is_expression (sort_at ss a) ≡ true
     pub atoms : arity_at ss a ≡ 1
-    pub formula : arity_at ss b ≡ 0
+    pub formula : is_formula (sort_at ss b) ≡ true
     pub few : v < most_variables
     pub domain_bound : bound_at ss a ≤ v
     pub body_bound : bound_at ss b ≤ suc v
-    pub own : arity_at ss i ≡ 0
+    pub own : is_formula (sort_at ss i) ≡ true
     pub past : past_at ss i ≡ past_at ss b
     pub bound : bound_at ss i ≡ v
     pub tree : formula_tree s ns i ≡ quantified q v (expr_tree s ns a) (formula_tree s ns b)
-
-arity_as : {x y : Sort} → x ≡ y → x.arity ≡ y.arity
-arity_as e = ap (λ (z : Sort). z.arity) e
-
-past_as : {x y : Sort} → x ≡ y → x.past ≡ y.past
-past_as e = ap (λ (z : Sort). z.past) e
-
-bound_as : {x y : Sort} → x ≡ y → x.bound ≡ y.bound
-bound_as e = ap (λ (z : Sort). z.bound) e
 
 ok_inv : (x y : Sort) → ◌≡◌ {A = Result Sort Misfit} (Ok x) (Ok y) → y ≡ x
 ok_inv x y e = cc
@@ -271,16 +264,110 @@ relation_inv rs r (Some a) t e f =
       same = g ∙ ap (λ x. expression x 0) (sym (get_or_from_slice_get rs r a 0 e));
     }
 
-record Shallow (b : Bool) (x t : Sort) : Type 0 where
-  pub met : b ≡ true
-  pub few : x.past ≤ most_past
+-- what a part has to be, and what comes of it
+record OfTurned (x t : Sort) : Type 0 where
+  pub some : is_expression x ≡ true
+  pub pairs : sort_arity x ≡ 2
+  pub same : t ≡ expression 2 (sort_bound x)
+
+turned_inv : (x t : Sort) → sorts.turned_sort x ≡ Ok t → OfTurned x t
+turned_inv (sort.Expression a b) t e =
+    let f = fits _ (expression 2 b) t _ e in record { some = refl; pairs = eqb-true _ _ f.met; same = f.same }
+turned_inv (sort.Formula p b) t e = absurd (cc)
+
+record OfNext (x t : Sort) : Type 0 where
+  pub some : is_expression x ≡ true
+  pub same : t ≡ expression (sort_arity x) (sort_bound x)
+
+next_inv : (x t : Sort) → sorts.next_sort x ≡ Ok t → OfNext x t
+next_inv (sort.Expression a b) t e = record { some = refl; same = ok_inv _ _ e }
+next_inv (sort.Formula p b) t e = absurd (cc)
+
+record OfTested (x t : Sort) : Type 0 where
+  pub some : is_expression x ≡ true
+  pub same : t ≡ formula 0 (sort_bound x)
+
+tested_inv : (x t : Sort) → sorts.tested_sort x ≡ Ok t → OfTested x t
+tested_inv (sort.Expression a b) t e = record { some = refl; same = ok_inv _ _ e }
+tested_inv (sort.Formula p b) t e = absurd (cc)
+
+record OfCombined (o : Operator) (x y t : Sort) : Type 0 where
+  pub left : is_expression x ≡ true
+  pub right : is_expression y ≡ true
+  pub suited : suits o (sort_arity x) (sort_arity y) ≡ true
+  pub same : t ≡ expression (outcome o (sort_arity x) (sort_arity y)) (max (sort_bound x) (sort_bound y))
+
+combined_inv : (o : Operator) (x y t : Sort) → sorts.combined o x y ≡ Ok t → OfCombined o x y t
+combined_inv o (sort.Expression a b) (sort.Expression c d) t e =
+    let f = fits _ (expression (outcome o a c) (max b d)) t _ e in
+    record { left = refl; right = refl; suited = f.met; same = f.same }
+combined_inv o (sort.Expression a b) (sort.Formula q d) t e = absurd (cc)
+combined_inv o (sort.Formula p b) y t e = absurd (cc)
+
+record OfCompared (x y t : Sort) : Type 0 where
+  pub left : is_expression x ≡ true
+  pub right : is_expression y ≡ true
+  pub alike : sort_arity x ≡ sort_arity y
+  pub same : t ≡ formula 0 (max (sort_bound x) (sort_bound y))
+
+compared_inv : (x y t : Sort) → sorts.compared x y ≡ Ok t → OfCompared x y t
+compared_inv (sort.Expression a b) (sort.Expression c d) t e =
+    let f = fits _ (formula 0 (max b d)) t _ e in
+    record { left = refl; right = refl; alike = eqb-true _ _ f.met; same = f.same }
+compared_inv (sort.Expression a b) (sort.Formula q d) t e = absurd (cc)
+compared_inv (sort.Formula p b) y t e = absurd (cc)
+
+record Shallow (x t : Sort) : Type 0 where
+  pub few : sort_past x ≤ most_past
   pub same : t ≡ x
 
-shallow_inv : (b : Bool) (x t : Sort) (m : Misfit) → cond b (shallow x) (Err m) ≡ Ok t → Shallow b x t
-shallow_inv true x t m e =
-    let f = fits (leb x.past most_past) x t _ e in
-    record { met = refl; few = leb-true _ _ f.met; same = f.same }
-shallow_inv false x t m e = absurd (cc)
+shallow_inv : (x t : Sort) → shallow x ≡ Ok t → Shallow x t
+shallow_inv x t e = let f = fits _ x t _ e in record { few = leb-true _ _ f.met; same = f.same }
+
+record OfPrefixed (d : ℕ) (x t : Sort) : Type 0 where
+  pub part : is_formula x ≡ true
+  pub shallow : Shallow (formula (sort_past x + d) (sort_bound x)) t
+
+prefixed_inv : (d : ℕ) (x t : Sort) → sorts.prefixed d x ≡ Ok t → OfPrefixed d x t
+prefixed_inv d (sort.Expression a b) t e = absurd (cc)
+prefixed_inv d (sort.Formula p b) t e = record { part = refl; shallow = shallow_inv _ t e }
+
+record OfJoined (d : ℕ) (x y t : Sort) : Type 0 where
+  pub left : is_formula x ≡ true
+  pub right : is_formula y ≡ true
+  pub shallow : Shallow (formula (max (sort_past x) (sort_past y) + d) (max (sort_bound x) (sort_bound y))) t
+
+joined_inv : (d : ℕ) (x y t : Sort) → sorts.joined d x y ≡ Ok t → OfJoined d x y t
+joined_inv d (sort.Expression a b) y t e = absurd (cc)
+joined_inv d (sort.Formula p b) (sort.Expression c e) t f = absurd (cc)
+joined_inv d (sort.Formula p b) (sort.Formula q c) t e = record { left = refl; right = refl; shallow = shallow_inv _ t e }
+
+record OfQuantified (v : ℕ) (x y t : Sort) : Type 0 where
+  pub domain : is_expression x ≡ true
+  pub body : is_formula y ≡ true
+  pub atoms : sort_arity x ≡ 1
+  pub few : v < most_variables
+  pub domain_bound : sort_bound x ≤ v
+  pub body_bound : sort_bound y ≤ suc v
+  pub same : t ≡ formula (sort_past y) v
+
+quantified_inv : (v : ℕ) (x y t : Sort) → sorts.quantified v x y ≡ Ok t → OfQuantified v x y t
+quantified_inv v (sort.Expression a b) (sort.Expression c d) t e = absurd (cc)
+quantified_inv v (sort.Expression a b) (sort.Formula p c) t e =
+    let f = fits _ (formula p v) t _ e in
+    let x = and_parts _ _ f.met in
+    let y = and_parts _ _ x.1 in
+    let z = and_parts _ _ y.1 in
+    record {
+      domain = refl;
+      body = refl;
+      atoms = eqb-true _ _ x.0;
+      few = ltb-true _ _ z.1;
+      domain_bound = leb-true _ _ y.0;
+      body_bound = leb-true _ _ z.0;
+      same = f.same;
+    }
+quantified_inv v (sort.Formula p b) y t e = absurd (cc)
 
 -- one lemma for each kind of node
 module _ {s : Places} {ns : List Node} {ss : List Sort} (S : Sorted s ns ss) (i : ℕ) (h : i < length ns) where
@@ -289,9 +376,9 @@ module _ {s : Places} {ns : List Node} {ss : List Sort} (S : Sorted s ns ss) (i 
       let f = relation_inv s.arities r (slice_get s.arities r) (sort_at ss i) refl (judged_as S i h (node.Relation r) e) in
       record {
         declared = f.declared;
-        own = arity_as f.same;
-        past = past_as f.same;
-        bound = bound_as f.same;
+        own = ap sort_arity f.same;
+        past = ap sort_past f.same;
+        bound = ap sort_bound f.same;
         tree = expr_tree_is S i h (node.Relation r) e;
       }
 
@@ -300,145 +387,152 @@ module _ {s : Places} {ns : List Node} {ss : List Sort} (S : Sorted s ns ss) (i 
       let f = fits (ltb v most_variables) (expression 1 (suc v)) (sort_at ss i) _ (judged_as S i h (node.Variable v) e) in
       record {
         few = ltb-true _ _ f.met;
-        own = arity_as f.same;
-        past = past_as f.same;
-        bound = bound_as f.same;
+        own = ap sort_arity f.same;
+        past = ap sort_past f.same;
+        bound = ap sort_bound f.same;
         tree = expr_tree_is S i h (node.Variable v) e;
       }
 
   pub constant_at : (c : Constant) → node_at ns i ≡ node.Constant c → ConstantAt s ns ss i c
   constant_at c e =
       let f = ok_inv (expression (constant_arity c) 0) (sort_at ss i) (judged_as S i h (node.Constant c) e) in
-      record { own = arity_as f; past = past_as f; bound = bound_as f; tree = expr_tree_is S i h (node.Constant c) e }
+      record { own = ap sort_arity f; past = ap sort_past f; bound = ap sort_bound f; tree = expr_tree_is S i h (node.Constant c) e }
 
   pub turned_at : (t : Turn) (a : ℕ) → node_at ns i ≡ node.Turned t a → TurnedAt s ns ss i t a
   turned_at t a e =
       let p = part ss i a sorts.turned_sort (sort_at ss i) (judged_as S i h (node.Turned t a) e) in
-      let f = fits _ (expression 2 (bound_at ss a)) (sort_at ss i) _ p.rest in
+      let f = turned_inv (sort_at ss a) (sort_at ss i) p.rest in
       record {
         before = p.before;
-        pairs = eqb-true _ _ f.met;
-        own = arity_as f.same;
-        past = past_as f.same;
-        bound = bound_as f.same;
+        some = f.some;
+        pairs = f.pairs;
+        own = ap sort_arity f.same;
+        past = ap sort_past f.same;
+        bound = ap sort_bound f.same;
         tree = expr_tree_is S i h (node.Turned t a) e;
       }
 
   pub next_at : (a : ℕ) → node_at ns i ≡ node.Next a → NextAt s ns ss i a
   next_at a e =
       let p = part ss i a sorts.next_sort (sort_at ss i) (judged_as S i h (node.Next a) e) in
-      let f = fits _ (expression (arity_at ss a) (bound_at ss a)) (sort_at ss i) _ p.rest in
+      let f = next_inv (sort_at ss a) (sort_at ss i) p.rest in
       record {
         before = p.before;
-        some = ltb-true _ _ f.met;
-        own = arity_as f.same;
-        past = past_as f.same;
-        bound = bound_as f.same;
+        some = f.some;
+        own = ap sort_arity f.same;
+        past = ap sort_past f.same;
+        bound = ap sort_bound f.same;
         tree = expr_tree_is S i h (node.Next a) e;
       }
 
   pub combined_at : (o : Operator) (a b : ℕ) → node_at ns i ≡ node.Combined o a b → CombinedAt s ns ss i o a b
   combined_at o a b e =
       let p = parts ss i a b (sorts.combined o) (sort_at ss i) (judged_as S i h (node.Combined o a b) e) in
-      let f = fits _ (expression (outcome o (arity_at ss a) (arity_at ss b)) (max (bound_at ss a) (bound_at ss b))) (sort_at ss i) _ p.rest in
-      let x = and_parts _ _ f.met in
-      let y = and_parts _ _ x.1 in
+      let f = combined_inv o (sort_at ss a) (sort_at ss b) (sort_at ss i) p.rest in
       record {
         left = p.left;
         right = p.right;
-        some_left = ltb-true _ _ x.0;
-        some_right = ltb-true _ _ y.0;
-        suited = y.1;
-        own = arity_as f.same;
-        past = past_as f.same;
-        bound = bound_as f.same;
+        some_left = f.left;
+        some_right = f.right;
+        suited = f.suited;
+        own = ap sort_arity f.same;
+        past = ap sort_past f.same;
+        bound = ap sort_bound f.same;
         tree = expr_tree_is S i h (node.Combined o a b) e;
       }
 
   pub tested_at : (q : Test) (a : ℕ) → node_at ns i ≡ node.Tested q a → TestedAt s ns ss i q a
   tested_at q a e =
       let p = part ss i a sorts.tested_sort (sort_at ss i) (judged_as S i h (node.Tested q a) e) in
-      let f = fits _ (formula 0 (bound_at ss a)) (sort_at ss i) _ p.rest in
+      let f = tested_inv (sort_at ss a) (sort_at ss i) p.rest in
       record {
         before = p.before;
-        some = ltb-true _ _ f.met;
-        own = arity_as f.same;
-        past = past_as f.same;
-        bound = bound_as f.same;
+        some = f.some;
+        own = ap is_formula f.same;
+        past = ap sort_past f.same;
+        bound = ap sort_bound f.same;
         tree = formula_tree_is S i h (node.Tested q a) e;
       }
 
   pub compared_at : (c : Comparison) (a b : ℕ) → node_at ns i ≡ node.Compared c a b → ComparedAt s ns ss i c a b
   compared_at c a b e =
       let p = parts ss i a b sorts.compared (sort_at ss i) (judged_as S i h (node.Compared c a b) e) in
-      let f = fits _ (formula 0 (max (bound_at ss a) (bound_at ss b))) (sort_at ss i) _ p.rest in
-      let x = and_parts _ _ f.met in
+      let f = compared_inv (sort_at ss a) (sort_at ss b) (sort_at ss i) p.rest in
       record {
         left = p.left;
         right = p.right;
-        some = ltb-true _ _ x.0;
-        alike = eqb-true _ _ x.1;
-        own = arity_as f.same;
-        past = past_as f.same;
-        bound = bound_as f.same;
+        some_left = f.left;
+        some_right = f.right;
+        alike = f.alike;
+        own = ap is_formula f.same;
+        past = ap sort_past f.same;
+        bound = ap sort_bound f.same;
         tree = formula_tree_is S i h (node.Compared c a b) e;
       }
 
   pub prefixed_at : (w : Prefix) (a : ℕ) → node_at ns i ≡ node.Prefixed w a → PrefixedAt s ns ss i w a
   prefixed_at w a e =
       let p = part ss i a (sorts.prefixed (prefix_past w)) (sort_at ss i) (judged_as S i h (node.Prefixed w a) e) in
-      let f = shallow_inv _ (formula (past_at ss a + prefix_past w) (bound_at ss a)) (sort_at ss i) _ p.rest in
+      let f = prefixed_inv (prefix_past w) (sort_at ss a) (sort_at ss i) p.rest in
       record {
         before = p.before;
-        formula = eqb-true _ _ f.met;
-        own = arity_as f.same;
-        past = past_as f.same;
-        shallow = f.few;
-        bound = bound_as f.same;
+        formula = f.part;
+        own = ap is_formula f.shallow.same;
+        past = ap sort_past f.shallow.same;
+        shallow = f.shallow.few;
+        bound = ap sort_bound f.shallow.same;
         tree = formula_tree_is S i h (node.Prefixed w a) e;
       }
 
   pub joined_at : (w : Infix) (a b : ℕ) → node_at ns i ≡ node.Joined w a b → JoinedAt s ns ss i w a b
   joined_at w a b e =
       let p = parts ss i a b (sorts.joined (infix_past w)) (sort_at ss i) (judged_as S i h (node.Joined w a b) e) in
-      let f = shallow_inv _ (formula (max (past_at ss a) (past_at ss b) + infix_past w) (max (bound_at ss a) (bound_at ss b))) (sort_at ss i) _ p.rest in
-      let x = and_parts _ _ f.met in
+      let f = joined_inv (infix_past w) (sort_at ss a) (sort_at ss b) (sort_at ss i) p.rest in
       record {
         left = p.left;
         right = p.right;
-        left_formula = eqb-true _ _ x.0;
-        right_formula = eqb-true _ _ x.1;
-        own = arity_as f.same;
-        past = past_as f.same;
-        shallow = f.few;
-        bound = bound_as f.same;
+        left_formula = f.left;
+        right_formula = f.right;
+        own = ap is_formula f.shallow.same;
+        past = ap sort_past f.shallow.same;
+        shallow = f.shallow.few;
+        bound = ap sort_bound f.shallow.same;
         tree = formula_tree_is S i h (node.Joined w a b) e;
       }
 
   pub quantified_at : (q : Quantifier) (v a b : ℕ) → node_at ns i ≡ node.Quantified q v a b → QuantifiedAt s ns ss i q v a b
   quantified_at q v a b e =
       let p = parts ss i a b (sorts.quantified v) (sort_at ss i) (judged_as S i h (node.Quantified q v a b) e) in
-      let f = fits _ (formula (past_at ss b) v) (sort_at ss i) _ p.rest in
-      let x = and_parts _ _ f.met in
-      let y = and_parts _ _ x.1 in
-      let z = and_parts _ _ y.1 in
-      let u = and_parts _ _ z.1 in
+      let f = quantified_inv v (sort_at ss a) (sort_at ss b) (sort_at ss i) p.rest in
       record {
         domain = p.left;
         body = p.right;
-        atoms = eqb-true _ _ x.0;
-        formula = eqb-true _ _ y.0;
-        few = ltb-true _ _ u.1;
-        domain_bound = leb-true _ _ z.0;
-        body_bound = leb-true _ _ u.0;
-        own = arity_as f.same;
-        past = past_as f.same;
-        bound = bound_as f.same;
+        some = f.domain;
+        atoms = f.atoms;
+        formula = f.body;
+        few = f.few;
+        domain_bound = f.domain_bound;
+        body_bound = f.body_bound;
+        own = ap is_formula f.same;
+        past = ap sort_past f.same;
+        bound = ap sort_bound f.same;
         tree = formula_tree_is S i h (node.Quantified q v a b) e;
       }
 
+-- what has an arity is an expression, and no formula is one
+arity_of_some : (s : Sort) → 0 < sort_arity s → is_expression s ≡ true
+arity_of_some (sort.Expression a b) h = refl
+arity_of_some (sort.Formula p b) h = absurd (omega arith)
+
+pub some_arity : (ss : List Sort) (i : ℕ) → 0 < arity_at ss i → is_expression (sort_at ss i) ≡ true
+some_arity ss i h = arity_of_some (sort_at ss i) h
+
+not_both : (s : Sort) → is_formula s ≡ true → is_expression s ≡ true → ⊥
+not_both (sort.Expression a b) e f = cc
+not_both (sort.Formula p b) e f = cc
+
 -- the tree of an expression has the arity of its sort, where those of its parts have
-arity_step : {s : Places} {ns : List Node} {ss : List Sort} → Sorted s ns ss → (i : ℕ) → i < length ns → ((a : ℕ) → a < i → 0 < arity_at ss a → arity (expr_tree s ns a) ≡ arity_at ss a) → (n : Node) → node_at ns i ≡ n → 0 < arity_at ss i → arity (expr_tree s ns i) ≡ arity_at ss i
+arity_step : {s : Places} {ns : List Node} {ss : List Sort} → Sorted s ns ss → (i : ℕ) → i < length ns → ((a : ℕ) → a < i → is_expression (sort_at ss a) ≡ true → arity (expr_tree s ns a) ≡ arity_at ss a) → (n : Node) → node_at ns i ≡ n → is_expression (sort_at ss i) ≡ true → arity (expr_tree s ns i) ≡ arity_at ss i
 arity_step S i h q (node.Relation r) e k = let p = relation_at S i h r e in ap arity p.tree ∙ sym p.own
 arity_step S i h q (node.Variable v) e k = let p = variable_at S i h v e in ap arity p.tree ∙ sym p.own
 arity_step S i h q (node.Constant c) e k = let p = constant_at S i h c e in ap arity p.tree ∙ sym p.own
@@ -447,22 +541,22 @@ arity_step S i h q (node.Next a) e k = let p = next_at S i h a e in ap arity p.t
 arity_step S i h q (node.Combined o a b) e k =
     let p = combined_at S i h o a b e in
     ap arity p.tree ∙ ap₂ (outcome o) (q a p.left p.some_left) (q b p.right p.some_right) ∙ sym p.own
-arity_step S i h q (node.Tested o a) e k = let p = tested_at S i h o a e in absurd (omega arith)
-arity_step S i h q (node.Compared c a b) e k = let p = compared_at S i h c a b e in absurd (omega arith)
-arity_step S i h q (node.Prefixed w a) e k = let p = prefixed_at S i h w a e in absurd (omega arith)
-arity_step S i h q (node.Joined w a b) e k = let p = joined_at S i h w a b e in absurd (omega arith)
-arity_step S i h q (node.Quantified o v a b) e k = let p = quantified_at S i h o v a b e in absurd (omega arith)
+arity_step S i h q (node.Tested o a) e k = absurd (not_both _ (tested_at S i h o a e).own k)
+arity_step S i h q (node.Compared c a b) e k = absurd (not_both _ (compared_at S i h c a b e).own k)
+arity_step S i h q (node.Prefixed w a) e k = absurd (not_both _ (prefixed_at S i h w a e).own k)
+arity_step S i h q (node.Joined w a b) e k = absurd (not_both _ (joined_at S i h w a b e).own k)
+arity_step S i h q (node.Quantified o v a b) e k = absurd (not_both _ (quantified_at S i h o v a b e).own k)
 
-arity_below : {s : Places} {ns : List Node} {ss : List Sort} → Sorted s ns ss → (m i : ℕ) → i < m → i < length ns → 0 < arity_at ss i → arity (expr_tree s ns i) ≡ arity_at ss i
+arity_below : {s : Places} {ns : List Node} {ss : List Sort} → Sorted s ns ss → (m i : ℕ) → i < m → i < length ns → is_expression (sort_at ss i) ≡ true → arity (expr_tree s ns i) ≡ arity_at ss i
 arity_below S zero i l h k = absurd (omega arith)
 arity_below {s} {ns} {ss} S (suc m) i l h k =
     arity_step S i h (λ a x y. arity_below S m a (omega arith) (omega arith) y) (node_at ns i) refl k
 
-pub tree_arity : {s : Places} {ns : List Node} {ss : List Sort} → Sorted s ns ss → (i : ℕ) → i < length ns → 0 < arity_at ss i → arity (expr_tree s ns i) ≡ arity_at ss i
+pub tree_arity : {s : Places} {ns : List Node} {ss : List Sort} → Sorted s ns ss → (i : ℕ) → i < length ns → is_expression (sort_at ss i) ≡ true → arity (expr_tree s ns i) ≡ arity_at ss i
 tree_arity S i h k = arity_below S (suc i) i (omega arith) h k
 
 -- the tree of a formula is as deep in the past as its sort says, where those of its parts are
-depth_step : {s : Places} {ns : List Node} {ss : List Sort} → Sorted s ns ss → (i : ℕ) → i < length ns → ((a : ℕ) → a < i → arity_at ss a ≡ 0 → depth (formula_tree s ns a) ≡ past_at ss a) → (n : Node) → node_at ns i ≡ n → depth (formula_tree s ns i) ≡ past_at ss i
+depth_step : {s : Places} {ns : List Node} {ss : List Sort} → Sorted s ns ss → (i : ℕ) → i < length ns → ((a : ℕ) → a < i → depth (formula_tree s ns a) ≡ past_at ss a) → (n : Node) → node_at ns i ≡ n → depth (formula_tree s ns i) ≡ past_at ss i
 depth_step S i h q (node.Relation r) e = let p = relation_at S i h r e in ap depth (formula_tree_is S i h (node.Relation r) e) ∙ sym p.past
 depth_step S i h q (node.Variable v) e = let p = variable_at S i h v e in ap depth (formula_tree_is S i h (node.Variable v) e) ∙ sym p.past
 depth_step S i h q (node.Constant c) e = let p = constant_at S i h c e in ap depth (formula_tree_is S i h (node.Constant c) e) ∙ sym p.past
@@ -474,17 +568,17 @@ depth_step S i h q (node.Tested o a) e = let p = tested_at S i h o a e in ap dep
 depth_step S i h q (node.Compared c a b) e = let p = compared_at S i h c a b e in ap depth p.tree ∙ sym p.past
 depth_step S i h q (node.Prefixed w a) e =
     let p = prefixed_at S i h w a e in
-    ap depth p.tree ∙ ap (λ x. x + prefix_past w) (q a p.before p.formula) ∙ sym p.past
+    ap depth p.tree ∙ ap (λ x. x + prefix_past w) (q a p.before) ∙ sym p.past
 depth_step S i h q (node.Joined w a b) e =
     let p = joined_at S i h w a b e in
-    ap depth p.tree ∙ ap₂ (λ x y. max x y + infix_past w) (q a p.left p.left_formula) (q b p.right p.right_formula) ∙ sym p.past
+    ap depth p.tree ∙ ap₂ (λ x y. max x y + infix_past w) (q a p.left) (q b p.right) ∙ sym p.past
 depth_step S i h q (node.Quantified o v a b) e =
-    let p = quantified_at S i h o v a b e in ap depth p.tree ∙ q b p.body p.formula ∙ sym p.past
+    let p = quantified_at S i h o v a b e in ap depth p.tree ∙ q b p.body ∙ sym p.past
 
 depth_below : {s : Places} {ns : List Node} {ss : List Sort} → Sorted s ns ss → (m i : ℕ) → i < m → i < length ns → depth (formula_tree s ns i) ≡ past_at ss i
 depth_below S zero i l h = absurd (omega arith)
 depth_below {s} {ns} {ss} S (suc m) i l h =
-    depth_step S i h (λ a x y. depth_below S m a (omega arith) (omega arith)) (node_at ns i) refl
+    depth_step S i h (λ a x. depth_below S m a (omega arith) (omega arith)) (node_at ns i) refl
 
 pub tree_depth : {s : Places} {ns : List Node} {ss : List Sort} → Sorted s ns ss → (i : ℕ) → i < length ns → depth (formula_tree s ns i) ≡ past_at ss i
 tree_depth S i h = depth_below S (suc i) i (omega arith) h

@@ -1,5 +1,5 @@
 -- Expressions and formulas as trees. Assumes nothing.
-use Rattle.std.specs.Prelude.{ℕ, ◌+◌, ◌-◌, max}
+use Rattle.std.specs.Prelude.{ℕ, ◌+◌, max}
 use Rattle.problem.specs.declared.node.Constant.{Constant}
 use Rattle.problem.specs.declared.node.Turn.{Turn}
 use Rattle.problem.specs.declared.node.Operator.{Operator}

@@ -4,7 +4,7 @@ use Rattle.problem.specs.declared.node.Prefix.{Prefix}
 use Rattle.problem.specs.declared.node.Prefix.TheVariants as prefix
 use Rattle.problem.specs.declared.node.Infix.{Infix}
 use Rattle.problem.specs.declared.node.Infix.TheVariants as word
-use Rattle.meaning.specs.Levels.{Level, opposite, Graded}
+use Rattle.meaning.specs.Levels.{opposite, Graded}
 
 abbrev pub Not : Graded → Graded
 Not P t i = P (opposite t) i → ⊥
