@@ -1,7 +1,13 @@
 -- The tables of the three values, for src/value. Assumes nothing.
-use Rattle.std.specs.Prelude.{Bool, true, false}
+use Rattle.std.specs.Prelude.{ℕ, Bool, true, false, List, codes}
 use Rattle.lasso.specs.declared.value.Value.{Value}
 use Rattle.lasso.specs.declared.value.Value.TheVariants.{No, Open, Yes}
+
+-- the words for the values
+abbrev pub word_of : Value → List ℕ
+word_of No = codes "no"
+word_of Open = codes "open"
+word_of Yes = codes "yes"
 
 -- yes of what holds, no of what does not
 abbrev pub of_bool : Bool → Value

@@ -1,6 +1,7 @@
-ghost use Rattle.std.specs.Prelude.{◌≡◌};
-ghost use Rattle.lasso.specs.Values.{not as not_of, of_bool, smaller as smaller_of, greater as greater_of};
+ghost use Rattle.std.specs.Prelude.{◌≡◌, Some};
+ghost use Rattle.lasso.specs.Values.{not as not_of, of_bool, smaller as smaller_of, greater as greater_of, word_of};
 
+use std::fmt;
 use std::ops::Not;
 
 // A Kleene value: what is known of a place at an instant. The values ascend.
@@ -48,5 +49,18 @@ impl From<bool> for Value {
 
     fn from(held: bool) -> Value {
         if held { Value::Yes } else { Value::No }
+    }
+}
+
+// The word for a value.
+impl fmt::Display for Value {
+    ghost output = { λ v. Some (word_of v) };
+
+    fn fmt<W: fmt::Write>(&self, f: &mut fmt::Formatter<W>) -> fmt::Result {
+        f.write_str(match self {
+            Value::No => "no",
+            Value::Open => "open",
+            Value::Yes => "yes",
+        })
     }
 }
