@@ -1,5 +1,6 @@
 -- What the bounds and the mutability say of a place: one thing, and of the places alone.
-use Rattle.std.proofs.Common.{◌≡◌, ℕ, ◌<◌, Bool, List, Some, get_or, sym, ap, ◌∙◌, arith}
+use Rattle.std.proofs.Common.{◌≡◌, ℕ, ◌<◌, ◌≤◌, Bool, true, false, List, Some, None, Option, get_or, sym, ap, subst, ◌∙◌, arith, Decides, MatchOption, unwrap_or}
+use Rattle.std.proofs.lemmas.Bool.{false≢true}
 use Rattle.lasso.specs.declared.value.Value.{Value}
 use Rattle.lasso.specs.declared.value.Value.TheVariants.{No}
 use Rattle.problem.specs.declared.problem.Problem.{Problem}
@@ -31,3 +32,8 @@ fixed_one p q v w a b =
     a.value
     ∙ ap (λ (u : Tuple). fixed (relation_at (relations_in p) u.relation).mutability) (unique (sizes_in p) a.at b.at q a.there b.there)
     ∙ sym b.value
+
+-- whether there is a fixed place of this number, by what is asked of it
+pub fixed_decided : (p : Problem) (q : ℕ) (r : Option Bool) → MatchOption r (place_count (sizes_in p) ≤ q) (λ b. FixedAt p q b) → Decides (unwrap_or r false) (FixedAt p q true)
+fixed_decided p q None h = (λ e. absurd (false≢true e), λ f. absurd (omega (arith, fixed_inside p q true f, h)))
+fixed_decided p q (Some v) h = (λ e. subst (λ b. FixedAt p q b) e h, λ f. sym (fixed_one p q true v f h))

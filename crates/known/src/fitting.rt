@@ -5,7 +5,7 @@ ghost use Rattle.source.specs.Meanings.{Meaning};
 ghost use Rattle.table.specs.Tables.{Copied};
 ghost use Rattle.known.specs.Known.{Fits, Misfit};
 
-use super::clash::first_clash;
+use super::told::Told;
 use faults::Fault;
 use places::places;
 use problem::Problem;
@@ -15,18 +15,24 @@ use table::Table;
 pub fn fit(problem: &Problem, told: &Table) -> Result<(), Fault>
     ensures { (m : Meaning) → Copied m told.now → MatchResult result (λ _. Fits problem.now m) (λ f. Misfit problem.now m f) }
 {
-    if !same_count(problem, told) {
+    let told = Told {
+        problem,
+        table: told,
+    };
+    if !told.counts_agree() {
         return Err(Fault::PlaceCountsDiffer);
     }
-    match first_clash(problem, told) {
+    match told.first_clash() {
         Some((instant, place)) => Err(Fault::Contradiction { place, instant }),
         None => Ok(()),
     }
 }
 
-// Whether a problem and a table have as many places.
-fn same_count(problem: &Problem, told: &Table) -> bool
-    ensures { Decides result (told.now.places ≡ place_count (sizes_in problem.now)) }
-{
-    told.places() == places(problem)
+impl Told<'_> {
+    // Whether the problem and the table have as many places.
+    fn counts_agree(&self) -> bool
+        ensures { Decides result (self.now.table.now.places ≡ place_count (sizes_in self.now.problem.now)) }
+    {
+        self.table.places() == places(self.problem)
+    }
 }

@@ -4,6 +4,7 @@
 mod clash;
 mod fitting;
 mod knowing;
+mod told;
 
 pub use fitting::fit;
 pub use knowing::known_table;

@@ -17,28 +17,13 @@ pub fn copied<S: Source>(source: &S) -> Table
     table
 }
 
-// A table with the counts of a source.
+// The blank table with the counts of a source.
 fn counted<S: Source>(source: &S) -> Table
     ensures counts { Counts (S.Source.meaning source.now) result }
     ensures kept { Kept (S.Source.meaning source.now) }
 {
-    match Shape::new(source.states(), source.loop_start()) {
-        Some(shape) => blank_over(source, shape),
-        None => unreachable!(),
-    }
-}
-
-// The blank table of a source's places over its shape.
-fn blank_over<S: Source>(source: &S, shape: Shape) -> Table
-    requires states { shape.states ≡ (S.Source.meaning source.now).states }
-    requires start { shape.loop_start ≡ (S.Source.meaning source.now).start }
-    ensures { Counts (S.Source.meaning source.now) result }
-{
-    let _states = source.states();
-    match Table::blank(source.places(), shape) {
-        Some(table) => table,
-        None => unreachable!(),
-    }
+    let shape = Shape::new(source.states(), source.loop_start()).unwrap();
+    Table::blank(source.places(), shape).unwrap()
 }
 
 // Copies the answers of a source in one state.

@@ -39,20 +39,14 @@ impl Table {
         ensures value { result ≡ value_in self.now state.0 place }
         ensures beyond { (self.now.shape.states ≤ state.0) ⊎ (self.now.places ≤ place) → result ≡ Open }
     {
-        if place >= self.places || state.0 >= self.shape.states() {
-            return Value::Open;
-        }
-        in_row(&self.rows[state.0], place)
+        self.row(state).get(place).copied().unwrap_or(Value::Open)
     }
 
     // The values of the places in a state; none from state 17 on.
     pub fn row(&self, state: State) -> &[Value]
         ensures { (q : ℕ) → slice_index_or result.now q Open ≡ value_in self.now state.0 q }
     {
-        if state.0 < MOST_STATES {
-            return &self.rows[state.0];
-        }
-        &[]
+        self.rows.get(state.0).map_or(&[], |row| &row[..])
     }
 
     // Writes the value of a place in a state; beyond the counts nothing alters.
@@ -94,14 +88,4 @@ fn filled(value: Value) -> [[Value; MOST_PLACES]; MOST_STATES]
     ensures wide { Wide result }
 {
     [[value; MOST_PLACES]; MOST_STATES]
-}
-
-// The value in a row at a place; open beyond the row.
-fn in_row(row: &[Value], place: usize) -> Value
-    ensures { result ≡ slice_index_or row.now place Open }
-{
-    if place >= row.len() {
-        return Value::Open;
-    }
-    row[place]
 }

@@ -1,7 +1,7 @@
 use Rattle.std.proofs.Common.{ℕ, ◌<◌}
 use Rattle.table.specs.Tables.{value_in}
 use Rattle.known.specs.Known.{Opposed}
-use Rattle.known.proofs.clash.opposed_before.Given as goal
+use Rattle.known.proofs.told.Told.opposed_before.Given as goal
 
 abbrev pub invariant-earlier : goal.invariant-earlier
-invariant-earlier l = (s : ℕ) → s < l.s → Opposed (value_in l.told s l.place) l.value → ⊥
+invariant-earlier l = (s : ℕ) → s < l.s → Opposed (value_in l.self.table.now s l.place) l.value → ⊥
