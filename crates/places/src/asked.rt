@@ -13,45 +13,32 @@ use problem::{Mutability, Problem, Relation};
 pub fn is_fixed(problem: &Problem, place: usize) -> Option<bool>
     ensures { MatchOption result (place_count (sizes_in problem.now) ≤ place) (λ b. FixedAt problem.now place b) }
 {
-    match at_place(problem, place) {
-        Some(at) => Some(fixed_at(problem.relations(), at.relation)),
-        None => None,
-    }
+    let at = at_place(problem, place)?;
+    Some(fixed_at(problem.relations(), at.relation))
 }
 
 // Whether the tuple at a place is always in, free (open), or never in; none from the place count on.
 pub fn bounds(problem: &Problem, place: usize) -> Option<Value>
     ensures { MatchOption result (place_count (sizes_in problem.now) ≤ place) (λ v. BoundAt problem.now place v) }
 {
-    match at_place(problem, place) {
-        Some(at) => Some(bound_at(problem.relations(), at)),
-        None => None,
-    }
+    let at = at_place(problem, place)?;
+    Some(bound_at(problem.relations(), at))
 }
 
+// Whether a relation is fixed, by its number; beyond the last one nothing alters.
 fn fixed_at(relations: &[Relation], at: usize) -> bool
     ensures { result ≡ fixed (relation_at (map declared_of relations.now) at).mutability }
 {
-    if at < relations.len() {
-        return is_so(relations[at].mutability());
-    }
-    true
+    relations
+        .get(at)
+        .is_none_or(|relation| relation.mutability() == Mutability::Fixed)
 }
 
-fn is_so(mutability: Mutability) -> bool
-    ensures { result ≡ fixed mutability }
-{
-    match mutability {
-        Mutability::Fixed => true,
-        Mutability::Mutable => false,
-    }
-}
-
+// What the bounds say of a tuple; beyond the last relation none is in.
 fn bound_at(relations: &[Relation], at: Tuple) -> Value
     ensures { result ≡ slice_index_or (relation_at (map declared_of relations.now) at.relation).bounds at.tuple No }
 {
-    if at.relation < relations.len() {
-        return relations[at.relation].bound(at.tuple);
-    }
-    Value::No
+    relations
+        .get(at.relation)
+        .map_or(Value::No, |relation| relation.bound(at.tuple))
 }

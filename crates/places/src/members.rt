@@ -41,10 +41,9 @@ fn split(problem: &Problem, relation: usize, number: usize) -> Members
 fn arity_at(relations: &[Relation], at: usize) -> Arity
     ensures { result ≡ (relation_at (map declared_of relations.now) at).arity }
 {
-    if at < relations.len() {
-        return relations[at].arity();
-    }
-    Arity::One
+    relations
+        .get(at)
+        .map_or(Arity::One, |relation| relation.arity())
 }
 
 // The atoms that a number stands for, of so many.

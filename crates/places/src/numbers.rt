@@ -30,11 +30,11 @@ pub fn first_place(problem: &Problem, relation: usize) -> usize
 }
 
 // The place of a tuple of a relation; none where there is no such tuple.
-pub fn place_of(problem: &Problem, relation: usize, tuple: usize) -> Option<usize>
-    ensures { result ≡ place_of (sizes_in problem.now) relation tuple }
+pub fn place_of(problem: &Problem, at: Tuple) -> Option<usize>
+    ensures { result ≡ place_of_tuple (sizes_in problem.now) at }
 {
-    if tuple < problem.size(relation) {
-        return Some(numbered(problem, relation, tuple));
+    if at.tuple < problem.size(at.relation) {
+        return Some(numbered(problem, at));
     }
     None
 }
@@ -69,12 +69,12 @@ fn count(problem: &Problem) -> usize
 }
 
 // The place of a tuple that there is.
-fn numbered(problem: &Problem, relation: usize, tuple: usize) -> usize
-    requires there { tuple < slice_index (sizes_in problem.now) relation }
-    requires few { tuple < 64 }
-    ensures { result ≡ before (sizes_in problem.now) relation + tuple }
+fn numbered(problem: &Problem, at: Tuple) -> usize
+    requires there { at.tuple < slice_index (sizes_in problem.now) at.relation }
+    requires few { at.tuple < 64 }
+    ensures { result ≡ before (sizes_in problem.now) at.relation + at.tuple }
 {
-    places_before(problem, relation) + tuple
+    places_before(problem, at.relation) + at.tuple
 }
 
 // Goes through the relations to the one that has the place.

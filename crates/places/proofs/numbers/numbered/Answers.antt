@@ -6,4 +6,4 @@ use Rattle.places.proofs.numbers.numbered.Goals as goal
 pub places_before-requires : goal.places_before-requires
 places_before-requires c =
     let p = c.args.problem.now in
-    omega (arith, sizes_len p, within (sizes_in p) c.args.relation c.args.tuple c.requires.there)
+    omega (arith, sizes_len p, within (sizes_in p) c.args.at.relation c.args.at.tuple c.requires.there)
