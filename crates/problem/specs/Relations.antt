@@ -66,16 +66,22 @@ declared_of r = record { name = spelling r.name; mutability = r.mutability; arit
 abbrev pub declared : List ℕ → Mutability → Arity → List Bool → List Bool → Declared
 declared n m a lower upper = record { name = n; mutability = m; arity = a; bounds = bounds_of lower upper }
 
--- whether a value is open
-abbrev pub is_open : Value → Bool
-is_open No = false
-is_open Open = true
-is_open Yes = false
+-- whether two values are one
+abbrev pub same : Value → Value → Bool
+same No No = true
+same No Open = false
+same No Yes = false
+same Open No = false
+same Open Open = true
+same Open Yes = false
+same Yes No = false
+same Yes Open = false
+same Yes Yes = true
 
--- how many values are open
-abbrev pub opens : List Value → ℕ
-opens vs = count_by is_open vs
+-- how many of the first values are this one
+abbrev pub number_of : Value → ℕ → List Value → ℕ
+number_of v n vs = count_by (same v) (take n vs)
 
 -- how many of the first values are open
 abbrev pub free_in : ℕ → List Value → ℕ
-free_in n vs = opens (take n vs)
+free_in n vs = number_of Open n vs

@@ -1,7 +1,7 @@
 ghost use Rattle.std.specs.Prelude.{◌≡◌, ◌≤◌, length, slice_index_or};
 ghost use Rattle.names.specs.Names.{spelling};
 ghost use Rattle.lasso.specs.declared.value.Value.TheVariants.{No};
-ghost use Rattle.problem.specs.Relations.{declared_of, declared, bounds_of, bound as bound_of, free_in};
+ghost use Rattle.problem.specs.Relations.{declared_of, declared, bounds_of, bound as bound_of, number_of, free_in};
 
 use super::super::tuples::TupleSet;
 use super::{Arity, Mutability, Relation};
@@ -55,7 +55,15 @@ impl Relation {
         ensures value { result ≡ free_in size self.now.bounds }
         ensures few { result ≤ 64 }
     {
-        first_open(&self.bounds, size)
+        self.count(Value::Open, size)
+    }
+
+    // How many of the first tuples have a bound.
+    pub fn count(&self, bound: Value, size: usize) -> usize
+        ensures value { result ≡ number_of bound size self.now.bounds }
+        ensures few { result ≤ 64 }
+    {
+        count_first(&self.bounds, bound, size)
     }
 }
 
@@ -86,14 +94,14 @@ fn bounds_of(lower: &TupleSet, upper: &TupleSet) -> [Value; 64]
     array::from_fn(|i| bound_of(lower.contains(i), upper.contains(i)))
 }
 
-// How many of the first values are open.
-fn first_open(values: &[Value], size: usize) -> usize
-    ensures value { result ≡ free_in size values.now }
+// How many of the first values are this one.
+fn count_first(values: &[Value], wanted: Value, size: usize) -> usize
+    ensures value { result ≡ number_of wanted size values.now }
     ensures few { result ≤ length values.now }
 {
     values
         .iter()
         .take(size)
-        .filter(|&&value| value == Value::Open)
+        .filter(|&&value| value == wanted)
         .count()
 }
