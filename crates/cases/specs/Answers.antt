@@ -5,8 +5,6 @@ use Rattle.logs.specs.Told as log_reading
 use Rattle.reader.specs.Reading.{Contents, reading}
 use Rattle.cases.specs.declared.answer.Answer.{Answer}
 use Rattle.cases.specs.declared.answer.Answer.TheVariants.{Held, Known, Accepted, Refused, Judged, Unknown}
-use Rattle.cases.specs.declared.answer.Kind.{Kind}
-use Rattle.cases.specs.declared.answer.Kind.TheVariants.{Record, Log, Text, Verdict, Other}
 use Rattle.cases.specs.Hex.{OfBytes, NoHex}
 use Rattle.cases.specs.Judgements.{OfPair}
 
@@ -37,24 +35,10 @@ ToText text (Refused f) = OfBytes text (λ bytes. reading bytes ≡ Err f)
 ToText text (Judged j) = ⊥
 ToText text Unknown = NoHex text
 
--- the kind of a case, by its first word
-abbrev pub IsKind : List ℕ → Kind → Type 0
-IsKind word Record = word ≡ codes "record"
-IsKind word Log = word ≡ codes "log"
-IsKind word Text = word ≡ codes "text"
-IsKind word Verdict = word ≡ codes "verdict"
-IsKind word Other = (word ≢ codes "record") × (word ≢ codes "log") × (word ≢ codes "text") × (word ≢ codes "verdict")
-
--- the answer to a case of a kind; another is not understood
-abbrev pub ToKind : Kind → List ℕ → Answer → Type 0
-ToKind Record text a = ToRecord text a
-ToKind Log text a = ToLog text a
-ToKind Text text a = ToText text a
-ToKind Verdict text a = OfPair text a
-ToKind Other text a = a ≡ Unknown
-
--- the answer to a line
-pub record Answers (word text : List ℕ) (a : Answer) : Type 0 where
-  pub kind : Kind
-  pub is : IsKind word kind
-  pub answer : ToKind kind text a
+-- the answer to a line, by its first word and what comes after it; with another word it is not understood
+pub data Answers (word text : List ℕ) : Answer → Type 0 where
+  to_record : {a : Answer} → word ≡ codes "record" → ToRecord text a → Answers word text a
+  to_log : {a : Answer} → word ≡ codes "log" → ToLog text a → Answers word text a
+  to_text : {a : Answer} → word ≡ codes "text" → ToText text a → Answers word text a
+  to_pair : {a : Answer} → word ≡ codes "verdict" → OfPair text a → Answers word text a
+  not_understood : word ≢ codes "record" → word ≢ codes "log" → word ≢ codes "text" → word ≢ codes "verdict" → Answers word text Unknown

@@ -1,21 +1,21 @@
-ghost use Rattle.std.specs.Prelude.{◌≡◌, ℕ, List, IfOk, Decides};
+ghost use Rattle.std.specs.Prelude.{◌≡◌, ℕ, List, IfOk};
 ghost use Rattle.cases.specs.Hex.{Hex};
 ghost use Rattle.cases.specs.Lines.{Cut};
-ghost use Rattle.cases.specs.Answers.{ToRecord, ToLog, ToText, IsKind, Answers};
+ghost use Rattle.cases.specs.Answers.{ToRecord, ToLog, ToText, Answers};
 ghost use Rattle.cases.specs.Judgements.{OfPair, ToSource};
 
 use super::hex::bytes_of;
-use super::judgement::{Judgement, by_log, by_nothing};
+use super::judgement::{NoVerdict, by_log, by_nothing};
 use super::lines::cut;
 use faults::Fault;
-use lasso::{Instant, State};
+use lasso::{Instant, State, Value};
 use logs::Log;
 use problem::Problem;
 use reader::{Refusal, read};
 use record::read_record;
 use source::Source;
 use std::alloc::{AllocError, Global};
-use std::fmt;
+use std::fmt::{self, Write};
 use trace::Trace;
 use words::{HeldIn, KnownAt};
 
@@ -26,18 +26,8 @@ pub enum Answer {
     Known(String),
     Accepted,
     Refused(Fault),
-    Judged(Judgement),
+    Judged(Result<Value, NoVerdict>),
     Unknown,
-}
-
-// The kind of a case.
-#[derive(Clone, Copy)]
-enum Kind {
-    Record,
-    Log,
-    Text,
-    Verdict,
-    Other,
 }
 
 impl Answer {
@@ -50,43 +40,17 @@ impl Answer {
     }
 }
 
-// The answer to a case of a kind.
+// The answer to a case, by the word for its kind.
 fn to_case(word: &[u8], text: &[u8], heap: Global) -> Result<Answer, AllocError>
     ensures { IfOk result (λ a. Answers word.now text.now a) }
 {
-    match kind_of(word) {
-        Kind::Record => to_record(text, heap),
-        Kind::Log => to_log(text, heap),
-        Kind::Text => to_text(text, heap),
-        Kind::Verdict => to_pair(text, heap),
-        Kind::Other => Ok(Answer::Unknown),
+    match word {
+        b"record" => to_record(text, heap),
+        b"log" => to_log(text, heap),
+        b"text" => to_text(text, heap),
+        b"verdict" => to_pair(text, heap),
+        _ => Ok(Answer::Unknown),
     }
-}
-
-// The kind of a case, by its first word.
-fn kind_of(word: &[u8]) -> Kind
-    ensures { IsKind word.now result }
-{
-    if is_word(word, b"record") {
-        return Kind::Record;
-    }
-    if is_word(word, b"log") {
-        return Kind::Log;
-    }
-    if is_word(word, b"text") {
-        return Kind::Text;
-    }
-    if is_word(word, b"verdict") {
-        return Kind::Verdict;
-    }
-    Kind::Other
-}
-
-// Whether two words are the same.
-fn is_word(word: &[u8], other: &[u8]) -> bool
-    ensures { Decides result (word.now ≡ other.now) }
-{
-    word == other
 }
 
 // The answer to a record in hexadecimal.
@@ -133,8 +97,7 @@ fn known_line(log: &Log<'_>, heap: Global) -> Result<String, AllocError> {
             source: log,
             instant: Instant(i),
         };
-        let part = format!(in heap; " [{known}]")?;
-        line.push_str(part.as_str())?;
+        write!(line, " [{known}]")?;
     }
     Ok(line)
 }
@@ -165,7 +128,7 @@ fn to_pair(text: &[u8], heap: Global) -> Result<Answer, AllocError>
     let mut problem = Problem::fresh(heap)?;
     match read(bytes.as_slice(), &mut problem, heap) {
         Ok(()) => to_source(&problem, log, heap),
-        Err(Refusal::Fault(fault)) => Ok(Answer::Judged(Judgement::TextRefused(fault))),
+        Err(Refusal::Fault(fault)) => Ok(Answer::Judged(Err(NoVerdict::TextRefused(fault)))),
         Err(Refusal::Memory(wanting)) => Err(wanting),
     }
 }
@@ -174,7 +137,7 @@ fn to_pair(text: &[u8], heap: Global) -> Result<Answer, AllocError>
 fn to_source(problem: &Problem, log: &[u8], heap: Global) -> Result<Answer, AllocError>
     ensures { IfOk result (λ a. ToSource problem.now log.now a) }
 {
-    if is_word(log, b"-") {
+    if log == b"-" {
         return Ok(Answer::Judged(by_nothing(problem)));
     }
     match bytes_of(log, heap)? {
@@ -190,7 +153,8 @@ impl fmt::Display for Answer {
             Answer::Known(line) => f.write_str(line.as_str()),
             Answer::Accepted => f.write_str("accepted"),
             Answer::Refused(fault) => write!(f, "refused {} at {}", fault.number(), fault.place()),
-            Answer::Judged(judgement) => write!(f, "{judgement}"),
+            Answer::Judged(Ok(verdict)) => write!(f, "{verdict}"),
+            Answer::Judged(Err(why)) => write!(f, "{why}"),
             Answer::Unknown => f.write_str("unknown"),
         }
     }

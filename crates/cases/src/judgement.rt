@@ -6,60 +6,52 @@ use logs::Log;
 use places::places;
 use problem::Problem;
 use source::{Blank, Source};
+use std::error::Error;
 use std::fmt;
 use verdict::verdict;
-use words::value_word;
 
-// What is answered to a problem text and a source: a verdict, or why there is none.
-#[derive(Clone, Copy)]
-pub enum Judgement {
-    Verdict(Value),
+// Why there is no verdict: the problem text or the log is refused, or the two do not fit.
+#[derive(Clone, Copy, Debug)]
+pub enum NoVerdict {
     TextRefused(Fault),
     LogRefused(Fault),
     Unfit(Fault),
 }
 
-// By a source that knows nothing.
-pub fn by_nothing(problem: &Problem) -> Judgement
+// The verdict by a source that knows nothing.
+pub fn by_nothing(problem: &Problem) -> Result<Value, NoVerdict>
     ensures { ByNothing problem.now result }
 {
-    match Blank::new(places(problem)) {
-        Ok(source) => by_source(problem, &source),
-        Err(_) => unreachable!(),
-    }
+    by_source(problem, &Blank::new(places(problem)).unwrap())
 }
 
-// By the bytes of a log.
-pub fn by_log(problem: &Problem, bytes: &[u8]) -> Judgement
+// The verdict by the bytes of a log.
+pub fn by_log(problem: &Problem, bytes: &[u8]) -> Result<Value, NoVerdict>
     ensures { ByBytes problem.now bytes.now result }
 {
     let mut log = Log::fresh();
-    match log.read(bytes) {
-        Ok(()) => by_source(problem, &log),
-        Err(fault) => Judgement::LogRefused(fault),
-    }
+    log.read(bytes).map_err(NoVerdict::LogRefused)?;
+    by_source(problem, &log)
 }
 
-// By a source: the verdict, or why the source does not fit the problem.
-fn by_source<S: Source>(problem: &Problem, source: &S) -> Judgement
+// The verdict by a source, or why the source does not fit the problem.
+fn by_source<S: Source>(problem: &Problem, source: &S) -> Result<Value, NoVerdict>
     ensures { ByMeaning problem.now (S.Source.meaning source.now) result }
 {
-    match verdict(problem, source) {
-        Ok(value) => Judgement::Verdict(value),
-        Err(fault) => Judgement::Unfit(fault),
-    }
+    verdict(problem, source).map_err(NoVerdict::Unfit)
 }
 
-impl fmt::Display for Judgement {
+impl fmt::Display for NoVerdict {
     fn fmt<W: fmt::Write>(&self, f: &mut fmt::Formatter<W>) -> fmt::Result {
         match *self {
-            Judgement::Verdict(value) => f.write_str(value_word(value)),
-            Judgement::TextRefused(fault) => refusal("text refused", fault, f),
-            Judgement::LogRefused(fault) => refusal("log refused", fault, f),
-            Judgement::Unfit(fault) => misfit(fault, f),
+            NoVerdict::TextRefused(fault) => refusal("text refused", fault, f),
+            NoVerdict::LogRefused(fault) => refusal("log refused", fault, f),
+            NoVerdict::Unfit(fault) => misfit(fault, f),
         }
     }
 }
+
+impl Error for NoVerdict {}
 
 // The number and the place of a refusal of bytes.
 fn refusal<W: fmt::Write>(kind: &str, fault: Fault, f: &mut fmt::Formatter<W>) -> fmt::Result {

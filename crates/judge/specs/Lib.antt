@@ -1,3 +1,2 @@
 pub mod Lines
-pub mod Counts
 pub mod Shown

@@ -28,10 +28,8 @@ fn log_path(rt: &HostRuntime) -> anyhow::Result<Option<String>> {
 
 // By a source that knows nothing.
 fn by_nothing(rt: &HostRuntime, problem: &Problem) -> anyhow::Result<()> {
-    match Blank::new(places(problem)) {
-        Ok(source) => by_source(rt, problem, &source),
-        Err(_) => unreachable!(),
-    }
+    let source = Blank::new(places(problem)).unwrap();
+    by_source(rt, problem, &source)
 }
 
 // By the log that a file holds.

@@ -3,7 +3,6 @@
 #![tactic(auto)]
 
 mod by_source;
-mod counts;
 mod misfit_in_words;
 mod place_in_text;
 mod report;

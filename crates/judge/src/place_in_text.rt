@@ -1,5 +1,5 @@
-ghost use Rattle.std.specs.Prelude.{◌≡◌, ◌≤◌, length};
-ghost use Rattle.judge.specs.Lines.{feeds, Begins, Ends, StandsAt};
+ghost use Rattle.std.specs.Prelude.{◌≡◌, ◌<◌, ◌≤◌, length, slice_index};
+ghost use Rattle.judge.specs.Lines.{feeds, OneLine, Begins, Ends, StandsAt};
 
 // Where a place stands in a text: its line and its column, counted from 1, and where this line begins and ends.
 #[derive(Clone, Copy)]
@@ -37,13 +37,10 @@ fn start_of(text: &[u8], place: usize) -> usize
     requires { place ≤ length text.now }
     ensures { Begins text.now place result }
 {
-    let mut start = 0;
-    'bytes: for i in 0..place {
-        if text[i] == b'\n' {
-            start = i + 1;
-        }
-    }
-    start
+    text[..place]
+        .iter()
+        .rposition(|b| *b == b'\n')
+        .map_or(0, |last| last + 1)
 }
 
 // Where the line of a place ends.
@@ -51,10 +48,14 @@ fn end_of(text: &[u8], place: usize) -> usize
     requires { place ≤ length text.now }
     ensures { Ends text.now place result }
 {
-    'bytes: for i in place..text.len() {
-        if text[i] == b'\n' {
-            return i;
-        }
-    }
-    text.len()
+    place + before_feed(&text[place..])
+}
+
+// How many bytes stand before the first line feed.
+fn before_feed(text: &[u8]) -> usize
+    ensures inside { result ≤ length text.now }
+    ensures feed { result < length text.now → slice_index text.now result ≡ 10 }
+    ensures none { OneLine text.now 0 result }
+{
+    text.iter().position(|b| *b == b'\n').unwrap_or(text.len())
 }

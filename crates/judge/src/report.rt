@@ -1,11 +1,11 @@
 ghost use Rattle.std.specs.Prelude.{◌≤◌, length};
 
-use super::counts::certain;
 use super::place_in_text::place_in_text;
 use super::shown::Shown;
 use faults::Fault;
+use lasso::Value;
 use names::Named;
-use problem::{MOST_FREE, Mutability, Problem, Relation};
+use problem::{MOST_FREE, Problem, Relation};
 use std::fmt;
 use words::Refusal;
 
@@ -56,30 +56,20 @@ fn relation_in_words<W: fmt::Write>(
     relation: &Relation,
     size: usize,
     f: &mut fmt::Formatter<W>,
-) -> fmt::Result
-    requires { size ≤ 64 }
-{
+) -> fmt::Result {
     let name = Shown {
         bytes: relation.name(),
     };
-    let kind = kind_word(relation.mutability());
+    let kind = relation.mutability();
     let (arity, always, free) = (
         relation.arity().number(),
-        certain(relation, size),
+        relation.count(Value::Yes, size),
         relation.free(size),
     );
     writeln!(
         f,
         "relation {name}: {kind}, arity {arity}, tuples always in {always}, free {free}"
     )
-}
-
-// The word for a kind of relation.
-fn kind_word(mutability: Mutability) -> &'static str {
-    match mutability {
-        Mutability::Fixed => "fixed",
-        Mutability::Mutable => "mutable",
-    }
 }
 
 // Why a text is refused, and where: the line of the text, and a mark under the place.

@@ -13,10 +13,10 @@ pub struct TupleInWords<'a> {
 
 impl fmt::Display for TupleInWords<'_> {
     fn fmt<W: fmt::Write>(&self, f: &mut fmt::Formatter<W>) -> fmt::Result {
-        match at_place(self.problem, self.place) {
-            Some(tuple) => tuple_in_words(self.problem, tuple, f),
-            None => Ok(()),
-        }
+        let Some(tuple) = at_place(self.problem, self.place) else {
+            return Ok(());
+        };
+        tuple_in_words(self.problem, tuple, f)
     }
 }
 
@@ -28,9 +28,8 @@ fn tuple_in_words<W: fmt::Write>(
 ) -> fmt::Result {
     name_at(problem.relations(), tuple.relation, f)?;
     f.write_char('(')?;
-    match atoms_of(problem, tuple) {
-        Some(members) => members_in_words(problem, members, f)?,
-        None => (),
+    if let Some(members) = atoms_of(problem, tuple) {
+        members_in_words(problem, members, f)?;
     }
     f.write_char(')')
 }
@@ -58,13 +57,11 @@ fn name_at<T: Named, W: fmt::Write>(
     at: usize,
     f: &mut fmt::Formatter<W>,
 ) -> fmt::Result {
-    match list.get(at) {
-        Some(entry) => {
-            let name = Shown {
-                bytes: entry.name(),
-            };
-            write!(f, "{name}")
-        }
-        None => Ok(()),
-    }
+    let Some(entry) = list.get(at) else {
+        return Ok(());
+    };
+    let name = Shown {
+        bytes: entry.name(),
+    };
+    write!(f, "{name}")
 }

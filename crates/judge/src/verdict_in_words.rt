@@ -1,6 +1,5 @@
 use lasso::Value;
 use std::fmt;
-use words::value_word;
 
 // A verdict, and a line on what it means.
 #[derive(Drop)]
@@ -10,9 +9,9 @@ pub struct VerdictInWords {
 
 impl fmt::Display for VerdictInWords {
     fn fmt<W: fmt::Write>(&self, f: &mut fmt::Formatter<W>) -> fmt::Result {
-        let (word, meaning) = (value_word(self.value), meaning_of(self.value));
-        writeln!(f, "verdict: {word}")?;
-        f.write_str(meaning)
+        let value = self.value;
+        writeln!(f, "verdict: {value}")?;
+        f.write_str(meaning_of(value))
     }
 }
 
