@@ -1,4 +1,4 @@
-ghost use Rattle.std.specs.Prelude.{◌≡◌, ◌<◌, ◌≤◌, length, slice_index};
+ghost use Rattle.std.specs.Prelude.{◌≡◌, ◌<◌, ◌≤◌, length, min, slice_index};
 ghost use Rattle.judge.specs.Lines.{feeds, OneLine, Begins, Ends, StandsAt};
 
 // Where a place stands in a text: its line and its column, counted from 1, and where this line begins and ends.
@@ -10,11 +10,11 @@ pub struct PlaceInText {
     pub end: usize,
 }
 
-// Where a place stands; the end of the text is a place, too.
+// Where a place stands; the end of the text is a place, too, and stands for all beyond it.
 pub(crate) fn place_in_text(text: &[u8], place: usize) -> PlaceInText
-    requires { place ≤ length text.now }
-    ensures { StandsAt text.now place result }
+    ensures { StandsAt text.now (min place (length text.now)) result }
 {
+    let place = place.min(text.len());
     let start = start_of(text, place);
     PlaceInText {
         line: 1 + count_feeds(&text[..place]),

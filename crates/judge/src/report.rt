@@ -1,5 +1,3 @@
-ghost use Rattle.std.specs.Prelude.{◌≤◌, length};
-
 use super::place_in_text::place_in_text;
 use super::shown::Shown;
 use faults::Fault;
@@ -84,14 +82,12 @@ impl fmt::Display for Refused<'_> {
         let fault = self.fault;
         let refusal = Refusal { fault };
         writeln!(f, "{refusal}")?;
-        mark(self.text, fault.place().min(self.text.len()), f)
+        mark(self.text, fault.place(), f)
     }
 }
 
 // The line and the column of a place, that line of the text, and a mark under the place.
-fn mark<W: fmt::Write>(text: &[u8], place: usize, f: &mut fmt::Formatter<W>) -> fmt::Result
-    requires { place ≤ length text.now }
-{
+fn mark<W: fmt::Write>(text: &[u8], place: usize, f: &mut fmt::Formatter<W>) -> fmt::Result {
     let at = place_in_text(text, place);
     let (line, column) = (at.line, at.column);
     writeln!(f, "line {line}, column {column}")?;
