@@ -1,31 +1,33 @@
--- What a walk through a list of names has found, and what index_of says of it.
-use Rattle.std.proofs.Common.{◌≡◌, ℕ, zero, suc, ◌<◌, false, List, [], ◌∷◌, map, length, get_or, Some, None, sym, refl, ap, ◌∙◌, ⊎_elim, arith}
+-- What the first place of a name in a list of names is.
+use Rattle.std.proofs.Common.{◌≡◌, ℕ, ◌+◌, Bool, true, not, cond, List, [], ◌∷◌, map, get_or, Some, None, Option, MatchOption, sym, refl, ap, arith}
 use Rattle.std.specs.Str.{bytes_eq}
+use Rattle.std.specs.List.{position, prefix_len}
 use Rattle.std.proofs.lemmas.Slice.Eq.{bytes_eq-Decides}
-use Rattle.std.proofs.lemmas.List.{get_or-map}
-use Rattle.std.proofs.lemmas.Bool.{cases_Bool, cond-true, cond-false}
-use Rattle.names.specs.Lookups.{index_of, further, FirstNamed, NoneNamed}
+use Rattle.std.proofs.lemmas.List.{length-map}
+use Rattle.std.proofs.lemmas.List.Quantifiers.{position-Some}
+use Rattle.std.proofs.lemmas.List.Sums.{prefix_len_passes}
+use Rattle.std.proofs.lemmas.Bool.Decides.{not_from_Decides, nat_tests}
+use Rattle.names.specs.Lookups.{index_of, FirstNamed, NoneNamed}
 
--- two names that differ
-differ : (x name : List ℕ) → (x ≡ name → ⊥) → bytes_eq x name ≡ false
-differ x name h = ⊎_elim (λ e. absurd (h ((bytes_eq-Decides x name).0 e))) (λ e. e) (cases_Bool (bytes_eq x name))
+prefix_map : {X Y : Type 0} (p : Y → Bool) (f : X → Y) (xs : List X) → prefix_len p (map f xs) ≡ prefix_len (λ x. p (f x)) xs
+prefix_map p f [] = refl
+prefix_map p f (x ∷ xs) = ap (λ n. cond (p (f x)) (1 + n) 0) (prefix_map p f xs)
 
-pub index_of_first : (name : List ℕ) (names : List (List ℕ)) (i : ℕ) → FirstNamed name names i → index_of name names ≡ Some i
+pub index_map : {X : Type 0} (name : List ℕ) (f : X → List ℕ) (xs : List X) → position (λ x. bytes_eq (f x) name) xs ≡ index_of name (map f xs)
 unfolding index_of
-index_of_first name [] i h = absurd (omega (arith, h.inside))
-index_of_first name (x ∷ xs) zero h = cond-true (bytes_eq x name) _ _ ((bytes_eq-Decides x name).1 h.there)
-index_of_first name (x ∷ xs) (suc i) h =
-    let inside : i < length xs = omega (arith, h.inside) in
-    let tail : FirstNamed name xs i = record { inside = inside; there = h.there; first = λ k l. h.first (suc k) (omega arith) } in
-    cond-false (bytes_eq x name) _ _ (differ x name (h.first 0 (omega arith))) ∙ ap further (index_of_first name xs i tail)
+index_map name f xs =
+    let n = prefix_map (λ x. not (bytes_eq x name)) f xs in
+    let l = length-map xs f in
+    rw (n, l) refl
 
-pub index_of_none : (name : List ℕ) (names : List (List ℕ)) → NoneNamed name names → index_of name names ≡ None
+none_from : (name : List ℕ) (names : List (List ℕ)) → position (λ x. bytes_eq x name) names ≡ None → NoneNamed name names
+none_from name names e k h =
+    let missed : not (bytes_eq (get_or names k []) name) ≡ true = prefix_len_passes (λ x. not (bytes_eq x name)) names k [] (grind (arith, nat_tests)) in
+    not_from_Decides (bytes_eq (get_or names k []) name) (bytes_eq-Decides _ _) (grind arith)
+
+pub first_named : (name : List ℕ) (names : List (List ℕ)) (r : Option ℕ) → r ≡ index_of name names → MatchOption r (NoneNamed name names) (λ i. FirstNamed name names i)
 unfolding index_of
-index_of_none name [] h = refl
-index_of_none name (x ∷ xs) h =
-    cond-false (bytes_eq x name) _ _ (differ x name (h 0 (omega arith)))
-    ∙ ap further (index_of_none name xs (λ k l. h (suc k) (omega arith)))
-
--- the name of an entry that was read
-pub name_at : {X : Type 0} (f : X → List ℕ) (xs : List X) (i : ℕ) (x : X) → i < length xs → x ≡ get_or xs i x → get_or (map f xs) i [] ≡ f x
-name_at f xs i x l e = get_or-map f xs i x [] l ∙ ap f (sym e)
+first_named name names None e = none_from name names (sym e)
+first_named name names (Some i) e =
+    let p = position-Some (λ x. bytes_eq x name) names i [] (sym e) in
+    record { inside = p.0; there = (bytes_eq-Decides _ _).0 p.1; first = λ k h. not_from_Decides _ (bytes_eq-Decides _ _) (p.2 k h) }

@@ -1,16 +1,10 @@
 -- Looking a name up in a list of names, for src/find. Assumes nothing.
-use Rattle.std.specs.Prelude.{◌≡◌, ℕ, suc, ◌<◌, cond, List, [], ◌∷◌, length, get_or, Some, None, Option, ◌≢◌, slice_index_or}
+use Rattle.std.specs.Prelude.{◌≡◌, ℕ, ◌<◌, List, [], length, get_or, Option, ◌≢◌, slice_index_or, position}
 use Rattle.std.specs.Str.{bytes_eq}
-
--- one place further on
-abbrev pub further : Option ℕ → Option ℕ
-further (Some i) = Some (suc i)
-further None = None
 
 -- the first place of a name
 unfoldable pub index_of : List ℕ → List (List ℕ) → Option ℕ
-index_of name [] = None
-index_of name (x ∷ xs) = cond (bytes_eq x name) (Some 0) (further (index_of name xs))
+index_of name names = position (λ x. bytes_eq x name) names
 
 -- none of the names is this one
 abbrev pub NoneNamed : List ℕ → List (List ℕ) → Type 0

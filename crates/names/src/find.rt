@@ -10,6 +10,7 @@ pub trait Named {
 }
 
 // The index of the first entry with that name.
+#[tactic(auto, using(crate::proofs::Finding::first_named))]
 pub fn lookup<T: Named>(list: &[T], name: &[u8]) -> Option<usize>
     ensures value { result ≡ index_of name.now (map T.Named.named list.now) }
     ensures first { MatchOption result (NoneNamed name.now (map T.Named.named list.now)) (λ i. FirstNamed name.now (map T.Named.named list.now) i) }
@@ -19,13 +20,7 @@ pub fn lookup<T: Named>(list: &[T], name: &[u8]) -> Option<usize>
 
 // Goes through the entries.
 fn found<T: Named>(list: &[T], name: &[u8]) -> Option<usize>
-    ensures value { result ≡ index_of name.now (map T.Named.named list.now) }
-    ensures first { MatchOption result (NoneNamed name.now (map T.Named.named list.now)) (λ i. FirstNamed name.now (map T.Named.named list.now) i) }
+    ensures { result ≡ index_of name.now (map T.Named.named list.now) }
 {
-    for (i, entry) in list.iter().enumerate() {
-        if entry.name() == name {
-            return Some(i);
-        }
-    }
-    None
+    list.iter().position(|entry| entry.name() == name)
 }

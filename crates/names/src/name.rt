@@ -8,7 +8,7 @@ pub const MOST_BYTES: usize = 12;
 // A name of its own: its bytes, of which there are few, so that no name asks for memory.
 #[derive(Clone, Copy)]
 pub struct Name {
-    bytes: [u8; 12],
+    bytes: [u8; MOST_BYTES],
     len: usize,
     ghost short: { len ≤ 12 },
 }

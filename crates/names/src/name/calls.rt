@@ -8,17 +8,14 @@ impl Name {
     pub fn new(bytes: &[u8]) -> Name
         ensures { spelling result ≡ take most_bytes bytes.now }
     {
-        if bytes.len() < MOST_BYTES {
-            return spelt(bytes);
-        }
-        spelt(&bytes[0..MOST_BYTES])
+        spelt(&bytes[..bytes.len().min(MOST_BYTES)])
     }
 
     // Its bytes.
     pub fn as_bytes(&self) -> &[u8]
         ensures { result.now ≡ spelling self.now }
     {
-        &self.bytes[0..self.len]
+        &self.bytes[..self.len]
     }
 }
 
@@ -27,8 +24,8 @@ fn spelt(bytes: &[u8]) -> Name
     requires { length bytes.now ≤ most_bytes }
     ensures { spelling result ≡ bytes.now }
 {
-    let mut own = [0; 12];
+    let mut own = [0; MOST_BYTES];
     let len = bytes.len();
-    own[0..len].copy_from_slice(bytes);
+    own[..len].copy_from_slice(bytes);
     Name { bytes: own, len }
 }
