@@ -19,7 +19,7 @@ module _ {X : Type 0} where
     pub lent : after.items.now ≡ slice_set before.items.now before.count x
 
   -- there was no room, and nothing altered
-  pub record Full (before after : Stack X) : Type 0 where
+  pub record NotPushed (before after : Stack X) : Type 0 where
     pub no_room : before.count ≡ room before
     pub count : after.count ≡ before.count
     pub lent : after.items.now ≡ before.items.now

@@ -3,4 +3,4 @@
 
 mod stack;
 
-pub use stack::Stack;
+pub use stack::{Full, Stack};

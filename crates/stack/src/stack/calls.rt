@@ -1,7 +1,7 @@
-ghost use Rattle.std.specs.Prelude.{◌≡◌, ◌<◌, true, false, [], length, MatchOption};
-ghost use Rattle.stack.specs.Stacks.{entries, Pushed, Full, Popped, Empty, TopIs};
+ghost use Rattle.std.specs.Prelude.{◌≡◌, [], length, MatchOption, MatchResult};
+ghost use Rattle.stack.specs.Stacks.{entries, Pushed, NotPushed, Popped, Empty, TopIs};
 
-use super::Stack;
+use super::{Full, Stack};
 
 impl<'a, T: Copy> Stack<'a, T> {
     // An empty stack over a slice, which stays as it is.
@@ -18,20 +18,20 @@ impl<'a, T: Copy> Stack<'a, T> {
         ensures count { result ≡ self.now.count }
         ensures value { result ≡ length (entries self.now) }
     {
-        counted(self)
+        self.as_slice().len()
     }
 
-    // Puts an entry on top; or answers that it is full, and then nothing alters.
-    pub fn push(&mut self, entry: T) -> bool
-        ensures put { result ≡ true → Pushed self.old entry self.new }
-        ensures full { result ≡ false → Full self.old self.new }
+    // Puts an entry on top; a full stack does not alter.
+    pub fn push(&mut self, entry: T) -> Result<(), Full>
+        ensures value { MatchResult result (λ _. Pushed self.old entry self.new) (λ _. NotPushed self.old self.new) }
         ensures named { self.new.items.ghost_name ≡ self.old.items.ghost_name }
     {
         if self.count >= self.items.len() {
-            return false;
+            return Err(Full);
         }
-        put(self, entry);
-        true
+        self.items[self.count] = entry;
+        self.count += 1;
+        Ok(())
     }
 
     // Takes the top off; none where it is empty. The slice stays as it is.
@@ -39,66 +39,22 @@ impl<'a, T: Copy> Stack<'a, T> {
         ensures value { MatchOption result (Empty self.old self.new) (λ x. Popped self.old x self.new) }
         ensures named { self.new.items.ghost_name ≡ self.old.items.ghost_name }
     {
-        if self.count == 0 {
-            return None;
-        }
-        Some(take_off(self))
+        let at = self.count.checked_sub(1)?;
+        self.count = at;
+        Some(self.items[at])
     }
 
     // The top; none where it is empty.
     pub fn top(&self) -> Option<T>
         ensures { MatchOption result (entries self.now ≡ []) (λ x. TopIs self.now x) }
     {
-        if self.count == 0 {
-            return None;
-        }
-        Some(last(self))
+        self.as_slice().last().copied()
     }
 
     // All entries, bottom first.
     pub fn as_slice(&self) -> &[T]
         ensures { result.now ≡ entries self.now }
     {
-        &self.items[0..self.count]
+        &self.items[..self.count]
     }
-}
-
-// As many as there are entries.
-fn counted<T>(stack: &Stack<'_, T>) -> usize
-    ensures count { result ≡ stack.now.count }
-    ensures value { result ≡ length (entries stack.now) }
-{
-    stack.count
-}
-
-// Puts an entry on top where there is room.
-fn put<T: Copy>(stack: &mut Stack<'_, T>, entry: T)
-    requires { stack.old.count < length stack.old.items.now }
-    ensures put { Pushed stack.old entry stack.new }
-    ensures named { stack.new.items.ghost_name ≡ stack.old.items.ghost_name }
-{
-    let at = stack.count;
-    stack.items[at] = entry;
-    stack.count = at + 1;
-}
-
-// Takes the top off where there is one.
-fn take_off<T: Copy>(stack: &mut Stack<'_, T>) -> T
-    requires { 0 < stack.old.count }
-    ensures value { Popped stack.old result stack.new }
-    ensures named { stack.new.items.ghost_name ≡ stack.old.items.ghost_name }
-{
-    let at = stack.count - 1;
-    stack.count = at;
-    stack.items[at]
-}
-
-// The top where there is one.
-fn last<T: Copy>(stack: &Stack<'_, T>) -> T
-    requires { 0 < stack.now.count }
-    ensures { TopIs stack.now result }
-{
-    let items: &[T] = stack.items;
-    let at = stack.count - 1;
-    items[at]
 }
