@@ -11,8 +11,6 @@ use Rattle.tokens.specs.declared.token.Word.{Word}
 use Rattle.tokens.specs.declared.token.Word.TheVariants as words
 use Rattle.tokens.specs.declared.token.Sign.{Sign}
 use Rattle.tokens.specs.declared.token.Sign.TheVariants as signs
-use Rattle.tokens.specs.declared.lexer.Class.{Class}
-use Rattle.tokens.specs.declared.lexer.Class.TheVariants as classes
 
 -- space, tab, line feed and carriage return separate
 abbrev pub space : ℕ → Bool
@@ -26,11 +24,6 @@ digit b = is_ascii_digit b
 
 abbrev pub alnum : ℕ → Bool
 alnum b = letter b || digit b
-
-abbrev pub within : Class → ℕ → Bool
-within classes.Space b = space b
-within classes.LetterOrDigit b = alnum b
-within classes.Digit b = digit b
 
 -- the sign that a byte is alone
 abbrev pub sign_of : ℕ → Option Sign

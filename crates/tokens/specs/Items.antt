@@ -1,5 +1,5 @@
 -- A text as the list of its tokens, and what of it is ahead of a reader. Assumes nothing.
-use Rattle.std.specs.Prelude.{◌≡◌, ℕ, zero, suc, ◌+◌, Bool, false, cond, List, [], ◌∷◌, length, take, drop, Option, Result, ◌==◌}
+use Rattle.std.specs.Prelude.{ℕ, zero, suc, ◌+◌, Bool, false, List, [], ◌∷◌, length, take, drop, Option, Result, ◌==◌}
 use Rattle.std.specs.declared.option.Option.TheVariants as option
 use Rattle.std.specs.declared.result.Result.TheVariants as result
 use Rattle.faults.specs.declared.Fault.{Fault}
@@ -12,8 +12,6 @@ use Rattle.tokens.specs.declared.token.Word.{Word}
 use Rattle.tokens.specs.declared.token.Word.TheVariants as words
 use Rattle.tokens.specs.declared.token.Sign.{Sign}
 use Rattle.tokens.specs.declared.token.Sign.TheVariants as signs
-use Rattle.tokens.specs.declared.tokens.Next.{Next}
-use Rattle.tokens.specs.declared.tokens.Next.TheVariants as next
 use Rattle.tokens.specs.declared.tokens.Tokens.{Tokens}
 use Rattle.tokens.specs.declared.mark.Mark.{Mark}
 use Rattle.tokens.specs.declared.mark.Mark.TheVariants as mark
@@ -47,19 +45,19 @@ abbrev pub cut_at : Result (Token × ℕ) Fault → List ℕ → ℕ → Lexed
 cut_at (result.Ok t) s p = got (view t.0) p (drop t.1 s) (p + t.1)
 cut_at (result.Err f) s p = bad f
 
-abbrev pub ahead_of : Next → List Item → List Item
-ahead_of (next.Spot s) us = at (view s.token) s.place ∷ us
-ahead_of (next.Flaw f) us = flaw f ∷ us
-ahead_of next.End us = []
+-- with what stands next before them; at the end of a text nothing does
+abbrev pub ahead_of : Option (Result Spot Fault) → List Item → List Item
+ahead_of (option.Some (result.Ok s)) us = at (view s.token) s.place ∷ us
+ahead_of (option.Some (result.Err f)) us = flaw f ∷ us
+ahead_of option.None us = []
 
 -- the items that a reader has not taken yet
 unfoldable pub ahead : Tokens → List Item
 ahead t = ahead_of t.next (items t.rest.now t.place)
 
-abbrev pub left_of : Next → ℕ → ℕ
-left_of (next.Spot s) n = suc n
-left_of (next.Flaw f) n = suc n
-left_of next.End n = 0
+abbrev pub left_of : Option (Result Spot Fault) → ℕ → ℕ
+left_of (option.Some s) n = suc n
+left_of option.None n = 0
 
 -- how many bytes are not taken yet, the next token counted as one
 unfoldable pub bytes_left : Tokens → ℕ
@@ -82,6 +80,11 @@ place_of (flaw f) = (entry f).place
 abbrev pub refusal : Item → Fault
 refusal (at t p) = NotAllowed p
 refusal (flaw f) = f
+
+-- the token of an item
+abbrev pub token_of : Item → Option Tok
+token_of (at t p) = option.Some t
+token_of (flaw f) = option.None
 
 -- the bytes of a name; the lexer lets at most 12 through
 abbrev pub name_in : Tok → Option (List ℕ)
@@ -168,7 +171,3 @@ same_mark m (option.Some k) = code m == code k
 
 abbrev pub is_mark : Mark → Item → Bool
 is_mark m i = same_mark m (mark_of i)
-
--- the mark was taken, or something else that is refused
-abbrev pub Expected : Mark → Tokens → Result ℕ Fault → Tokens → Type 0
-Expected m t r u = (r ≡ cond (is_mark m (first t.len (ahead t))) (result.Ok (place_of (first t.len (ahead t)))) (result.Err (refusal (first t.len (ahead t))))) × (ahead u ≡ drop 1 (ahead t)) × (u.len ≡ t.len)

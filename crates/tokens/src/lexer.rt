@@ -1,12 +1,11 @@
-ghost use Rattle.std.specs.Prelude.{◌≡◌, ◌+◌, ◌<◌, ◌≤◌, length, IfOk};
+ghost use Rattle.std.specs.Prelude.{◌≡◌, ◌+◌, ◌<◌, ◌≤◌, length, cond, nat_le, IfOk};
 ghost use Rattle.std.specs.List.{prefix_len};
-ghost use Rattle.tokens.specs.Classes.{within, sign_of, spelt};
+ghost use Rattle.tokens.specs.Classes.{space, alnum, digit, sign_of, spelt};
 ghost use Rattle.tokens.specs.Lexing.{token, lettered, numbered, sign_at, word_of};
 ghost use Rattle.tokens.specs.Items.{items, ahead_of, left_of, cut_at};
 ghost use Rattle.tokens.specs.Digits.{digits, digits_in};
 
 use super::token::{Sign, Spot, Token, Word};
-use super::tokens::Next;
 use faults::Fault;
 use names::{MOST_BYTES, Named, lookup};
 use problem::{Constant, Infix, Operator, Prefix, Turn};
@@ -14,17 +13,10 @@ use problem::{Constant, Infix, Operator, Prefix, Turn};
 // The most digits of a number.
 const MOST_DIGITS: usize = 3;
 
-#[derive(Clone, Copy)]
-enum Class {
-    Space,
-    LetterOrDigit,
-    Digit,
-}
-
 // What was cut off the front of some bytes, and what is left with the place of that.
 #[derive(Clone, Copy)]
 pub struct Cut<'a> {
-    pub next: Next<'a>,
+    pub next: Option<Result<Spot<'a>, Fault>>,
     pub rest: &'a [u8],
     pub place: usize,
 }
@@ -89,17 +81,6 @@ impl Named for Word {
     }
 }
 
-// Whether a byte is of a class.
-fn has(class: Class, b: u8) -> bool
-    ensures { result ≡ within class b }
-{
-    match class {
-        Class::Space => matches!(b as char, ' ' | '\t' | '\n' | '\r'),
-        Class::LetterOrDigit => matches!(b as char, 'a'..='z' | 'A'..='Z' | '0'..='9'),
-        Class::Digit => matches!(b as char, '0'..='9'),
-    }
-}
-
 // The sign that a byte is alone.
 fn sign_of(b: u8) -> Option<Sign>
     ensures { result ≡ sign_of b }
@@ -128,25 +109,47 @@ fn sign_of(b: u8) -> Option<Sign>
 }
 
 // The reserved word that some bytes spell.
+#[tactic(auto, using(crate::proofs::Reserved::word_found, crate::proofs::Reserved::word_none))]
 fn word_of(s: &[u8]) -> Option<Word>
     ensures { result ≡ word_of s.now }
 {
-    match lookup(&RESERVED, s) {
-        Some(i) => Some(RESERVED[i]),
-        None => None,
-    }
+    RESERVED.get(lookup(&RESERVED, s)?).copied()
 }
 
-// How many bytes at the front are of a class.
-fn front(s: &[u8], class: Class) -> usize
-    ensures count { result ≡ prefix_len (within class) s.now }
+// How many separators stand at the front.
+fn spaces(s: &[u8]) -> usize
+    ensures count { result ≡ prefix_len space s.now }
     ensures inside { result ≤ length s.now }
 {
-    let mut n = 0;
-    while n < s.len() && has(class, s[n]) {
-        n += 1;
+    s.iter()
+        .take_while(|b| matches!(**b as char, ' ' | '\t' | '\n' | '\r'))
+        .count()
+}
+
+// How many letters and digits stand at the front.
+fn letters_and_digits(s: &[u8]) -> usize
+    ensures count { result ≡ prefix_len alnum s.now }
+    ensures inside { result ≤ length s.now }
+{
+    s.iter().take_while(|b| b.is_ascii_alphanumeric()).count()
+}
+
+// How many digits stand at the front.
+fn digits_alone(s: &[u8]) -> usize
+    ensures count { result ≡ prefix_len digit s.now }
+    ensures inside { result ≤ length s.now }
+{
+    s.iter().take_while(|b| b.is_ascii_digit()).count()
+}
+
+// A length that a token may have.
+fn few(n: usize, most: usize, place: usize) -> Result<usize, Fault>
+    ensures { result ≡ cond (nat_le n most) (Ok n) (Err (Fault.TokenTooLong place)) }
+{
+    if n > most {
+        return Err(Fault::TokenTooLong { place });
     }
-    n
+    Ok(n)
 }
 
 // The name or the reserved word at the front of some bytes that begin with a letter, and how long it is.
@@ -155,11 +158,8 @@ fn word_at<'a>(s: &'a [u8], place: usize) -> Result<(Token<'a>, usize), Fault>
     ensures inside { IfOk result (λ t. t.1 ≤ length s.now) }
     ensures brief { IfOk result (λ t. digits t.0 ≤ 3) }
 {
-    let n = front(s, Class::LetterOrDigit);
-    if n > MOST_BYTES {
-        return Err(Fault::TokenTooLong { place });
-    }
-    let name = &s[0..n];
+    let n = few(letters_and_digits(s), MOST_BYTES, place)?;
+    let name = &s[..n];
     match word_of(name) {
         Some(word) => Ok((Token::Word(word, name), n)),
         None => Ok((Token::Name(name), n)),
@@ -172,11 +172,8 @@ fn number_at<'a>(s: &'a [u8], place: usize) -> Result<(Token<'a>, usize), Fault>
     ensures inside { IfOk result (λ t. t.1 ≤ length s.now) }
     ensures brief { IfOk result (λ t. digits t.0 ≤ 3) }
 {
-    let n = front(s, Class::Digit);
-    if n > MOST_DIGITS {
-        return Err(Fault::TokenTooLong { place });
-    }
-    Ok((Token::Number(&s[0..n]), n))
+    let n = few(digits_alone(s), MOST_DIGITS, place)?;
+    Ok((Token::Number(&s[..n]), n))
 }
 
 // The sign at the front, and how long it is.
@@ -217,29 +214,29 @@ pub(crate) fn next_token<'a>(text: &'a [u8], place: usize, len: usize) -> Cut<'a
     ensures shorter { left_of result.next (length result.rest.now) ≤ length text.now }
     ensures brief { digits_in result.next ≤ 3 }
 {
-    let n = front(text, Class::Space);
+    let n = spaces(text);
     let rest = &text[n..];
     let start = place + n;
     if rest.is_empty() {
         return Cut {
-            next: Next::End,
+            next: None,
             rest,
             place: start,
         };
     }
     match token_at(rest, start) {
         Ok((token, size)) => Cut {
-            next: Next::Spot(Spot {
+            next: Some(Ok(Spot {
                 token,
                 place: start,
-            }),
+            })),
             rest: &rest[size..],
             place: start + size,
         },
         // After a fault of the bytes there is nothing to read.
         Err(fault) => Cut {
-            next: Next::Flaw(fault),
-            rest: &rest[rest.len()..],
+            next: Some(Err(fault)),
+            rest: &[],
             place: len,
         },
     }

@@ -1,5 +1,5 @@
 // A token that stands for nothing but itself.
-#[derive(Clone, Copy)]
+#[derive(Clone, Copy, PartialEq, Eq, Debug)]
 pub enum Mark {
     Semicolon,
     Colon,

@@ -5,22 +5,13 @@ use super::token::Spot;
 use faults::Fault;
 
 mod calls;
-mod public;
 
-// What stands next in a text.
-#[derive(Clone, Copy)]
-pub enum Next<'a> {
-    Spot(Spot<'a>),
-    Flaw(Fault),
-    End,
-}
-
-// The tokens of a text that are not taken yet, the next one looked at.
+// The tokens of a text that are not taken yet, the next one looked at; at the end there is none.
 #[derive(Drop)]
 pub struct Tokens<'a> {
     rest: &'a [u8],
     place: usize,
-    next: Next<'a>,
+    next: Option<Result<Spot<'a>, Fault>>,
     len: usize,
     ghost inside: { place + length rest.now ≡ len },
     ghost brief: { digits_in next ≤ 3 },

@@ -1,180 +1,154 @@
-ghost use Rattle.std.specs.Prelude.{◌≡◌, ◌+◌, ◌<◌, ◌≤◌, [], length, drop, IfOk, ◌==◌, ◌≢◌};
+ghost use Rattle.std.specs.Prelude.{◌≡◌, ◌+◌, ◌<◌, ◌≤◌, [], length, IfOk, IfSome, ◌≢◌};
 ghost use Rattle.std.specs.Option.{option_map};
 ghost use Rattle.names.specs.Names.{spelling};
-ghost use Rattle.tokens.specs.Items.{items, ahead, ahead_of, left_of, first, seen, place_of, refusal, name_of, number_of, is_mark, Expected, bytes_left, view, mark_in, code};
-ghost use Rattle.tokens.specs.Digits.{digits, digits_in};
+ghost use Rattle.tokens.specs.Items.{items, ahead, seen, place_of, refusal, token_of, name_of, number_of, is_mark, mark_of as mark_of_item, bytes_left, view, mark_in};
+ghost use Rattle.tokens.specs.Cursors.{cursor, cursor_of, head, step, expected};
+ghost use Rattle.tokens.specs.Digits.{digits};
 ghost use Rattle.tokens.specs.Lexing.{value_of};
 
-use super::super::lexer::{Cut, next_token};
+use super::super::lexer::next_token;
 use super::super::mark::Mark;
 use super::super::token::{Sign, Spot, Token, Word};
-use super::{Next, Tokens};
+use super::Tokens;
 use faults::Fault;
 use names::Name;
 
 impl<'a> Tokens<'a> {
     // The tokens of a text, from its start.
-    pub(super) fn begin(text: &'a [u8]) -> Tokens<'a>
-        ensures items { ahead result ≡ items text.now 0 }
-        ensures len { result.len ≡ length text.now }
-        ensures left { bytes_left result ≤ length text.now }
+    #[tactic(auto, using(crate::proofs::Moving::cursor_start))]
+    pub fn new(text: &'a [u8]) -> Tokens<'a>
+        ensures { cursor result ≡ cursor_of text.now }
     {
-        let len = text.len();
-        tokens_from(next_token(text, 0, len), len)
+        tokens_from(text, 0, text.len())
     }
 
     // The next token, or the fault of the bytes there; at the end of the text its end.
-    pub(super) fn peeked(&self) -> Result<Spot<'a>, Fault>
-        ensures { seen result ≡ first self.now.len (ahead self.now) }
+    #[tactic(auto, using(crate::proofs::Moving::peeked))]
+    pub fn peek(&self) -> Result<Spot<'a>, Fault>
+        ensures value { seen result ≡ head (cursor self.now) }
+        ensures brief { IfOk result (λ s. digits s.token ≤ 3) }
     {
-        self.look()
+        self.next.unwrap_or(Ok(Spot {
+            token: Token::End,
+            place: self.len,
+        }))
+    }
+
+    // The next token; none where the bytes there are at fault.
+    pub fn token(&self) -> Option<Token<'a>>
+        ensures value { option_map view result ≡ token_of (head (cursor self.now)) }
+        ensures brief { IfSome result (λ t. digits t ≤ 3) }
+    {
+        self.peek().ok().map(|spot| spot.token)
     }
 
     // Where the next token begins.
-    pub(super) fn next_place(&self) -> usize
-        ensures { result ≡ place_of (first self.now.len (ahead self.now)) }
+    pub fn place(&self) -> usize
+        ensures { result ≡ place_of (head (cursor self.now)) }
     {
-        match self.peeked() {
+        match self.peek() {
             Ok(spot) => spot.place,
             Err(fault) => fault.place(),
         }
     }
 
     // Whether the next token is that mark.
-    pub(super) fn next_is(&self, mark: Mark) -> bool
-        ensures { result ≡ is_mark mark (first self.now.len (ahead self.now)) }
+    pub fn is(&self, mark: Mark) -> bool
+        ensures { result ≡ is_mark mark (head (cursor self.now)) }
     {
-        let Ok(spot) = self.peeked() else {
-            return false;
-        };
-        match mark_of(spot.token) {
-            Some(own) => same(mark, own),
-            None => false,
-        }
+        self.mark() == Some(mark)
     }
 
     // The next token, if it is a name.
-    pub(super) fn next_name(&self) -> Option<Name>
-        ensures { option_map spelling result ≡ name_of (first self.now.len (ahead self.now)) }
+    pub fn name(&self) -> Option<Name>
+        ensures { option_map spelling result ≡ name_of (head (cursor self.now)) }
     {
-        let Ok(spot) = self.peeked() else {
-            return None;
-        };
-        match spot.token {
+        match self.token()? {
             Token::Name(name) => Some(Name::new(name)),
             _ => None,
         }
     }
 
     // The value of the next token, if it is a number.
-    pub(super) fn next_number(&self) -> Option<usize>
-        ensures { result ≡ number_of (first self.now.len (ahead self.now)) }
+    pub fn number(&self) -> Option<usize>
+        ensures { result ≡ number_of (head (cursor self.now)) }
     {
-        let Ok(spot) = self.look() else {
-            return None;
-        };
-        match spot.token {
+        match self.token()? {
             Token::Number(digits) => Some(value(digits)),
             _ => None,
         }
     }
 
     // Takes the next token; at the end nothing alters.
-    pub(super) fn take_one(&mut self)
-        ensures rest { ahead self.new ≡ drop 1 (ahead self.old) }
-        ensures len { self.new.len ≡ self.old.len }
+    #[tactic(auto, using(crate::proofs::Moving::stayed, crate::proofs::Moving::stepped, crate::proofs::Moving::end_of, crate::proofs::Moving::left_more))]
+    pub fn advance(&mut self)
+        ensures rest { cursor self.new ≡ step (cursor self.old) }
         ensures shorter { (ahead self.old ≢ []) → bytes_left self.new < bytes_left self.old }
     {
-        *self = tokens_from(self.after(), self.len);
+        if self.next.is_none() {
+            return;
+        }
+        *self = tokens_from(self.rest, self.place, self.len);
     }
 
     // Takes the next token, which cannot stand there, and says why.
-    pub(super) fn refuse_one(&mut self) -> Fault
-        ensures value { result ≡ refusal (first self.old.len (ahead self.old)) }
-        ensures rest { ahead self.new ≡ drop 1 (ahead self.old) }
-        ensures len { self.new.len ≡ self.old.len }
+    pub fn refuse(&mut self) -> Fault
+        ensures value { result ≡ refusal (head (cursor self.old)) }
+        ensures rest { cursor self.new ≡ step (cursor self.old) }
         ensures shorter { (ahead self.old ≢ []) → bytes_left self.new < bytes_left self.old }
     {
-        let fault = match self.peeked() {
+        let fault = match self.peek() {
             Ok(spot) => Fault::NotAllowed { place: spot.place },
             Err(fault) => fault,
         };
-        self.take_one();
+        self.advance();
         fault
     }
 
     // Takes the next token, which has to be that mark, and answers its place.
-    pub(super) fn expect_one(&mut self, mark: Mark) -> Result<usize, Fault>
-        ensures taken { Expected mark self.old result self.new }
+    #[tactic(auto, unfolding(crate::specs::Cursors::expected))]
+    pub fn expect(&mut self, mark: Mark) -> Result<usize, Fault>
+        ensures value { result ≡ expected mark (head (cursor self.old)) }
+        ensures rest { cursor self.new ≡ step (cursor self.old) }
         ensures shorter { (ahead self.old ≢ []) → bytes_left self.new < bytes_left self.old }
     {
-        if !self.next_is(mark) {
-            return Err(self.refuse_one());
+        if !self.is(mark) {
+            return Err(self.refuse());
         }
-        let place = self.next_place();
-        self.take_one();
+        let place = self.place();
+        self.advance();
         Ok(place)
     }
 
+    // The mark that the next token is, if it is one.
+    fn mark(&self) -> Option<Mark>
+        ensures { result ≡ mark_of_item (head (cursor self.now)) }
+    {
+        mark_of(self.token()?)
+    }
+
     // How many bytes are not taken yet, the next token counted as one; at least as many as items are ahead.
+    #[tactic(auto, using(crate::proofs::Moving::ahead_le_left), unfolding(crate::specs::Items::bytes_left))]
     pub fn left(&self) -> usize
         ensures value { result ≡ bytes_left self.now }
         ensures bound { length (ahead self.now) ≤ result }
     {
-        self.bytes_left()
-    }
-
-    // Counts them.
-    fn bytes_left(&self) -> usize
-        ensures value { result ≡ bytes_left self.now }
-        ensures bound { length (ahead self.now) ≤ result }
-    {
         match self.next {
-            Next::End => 0,
-            _ => self.rest.len() + 1,
+            Some(_) => self.rest.len() + 1,
+            None => 0,
         }
-    }
-
-    // The next token; it is known that a number has few digits.
-    fn look(&self) -> Result<Spot<'a>, Fault>
-        ensures item { seen result ≡ first self.now.len (ahead self.now) }
-        ensures brief { IfOk result (λ s. digits s.token ≤ 3) }
-    {
-        match self.next {
-            Next::Spot(spot) => Ok(spot),
-            Next::Flaw(fault) => Err(fault),
-            Next::End => Ok(Spot {
-                token: Token::End,
-                place: self.len,
-            }),
-        }
-    }
-
-    // What stands after the next token; at the end, the end.
-    fn after(&self) -> Cut<'a>
-        ensures items { ahead_of result.next (items result.rest.now result.place) ≡ drop 1 (ahead self.now) }
-        ensures inside { result.place + length result.rest.now ≡ self.now.len }
-        ensures shorter { (ahead self.now ≢ []) → left_of result.next (length result.rest.now) < bytes_left self.now }
-        ensures brief { digits_in result.next ≤ 3 }
-    {
-        if let Next::End = self.next {
-            return Cut {
-                next: Next::End,
-                rest: self.rest,
-                place: self.place,
-            };
-        }
-        next_token(self.rest, self.place, self.len)
     }
 }
 
-// The tokens of a text of that length from a cut on.
-fn tokens_from<'a>(cut: Cut<'a>, len: usize) -> Tokens<'a>
-    requires { (cut.place + length cut.rest.now ≡ len) × (digits_in cut.next ≤ 3) }
-    ensures items { ahead result ≡ ahead_of cut.entry.next (items cut.entry.rest.now cut.entry.place) }
+// The tokens of what is left of a text of that length.
+#[tactic(auto, unfolding(crate::specs::Items::ahead, crate::specs::Items::bytes_left))]
+fn tokens_from<'a>(rest: &'a [u8], place: usize, len: usize) -> Tokens<'a>
+    requires { place + length rest.now ≡ len }
+    ensures items { ahead result ≡ items rest.now place }
     ensures len { result.len ≡ len }
-    ensures left { bytes_left result ≡ left_of cut.entry.next (length cut.entry.rest.now) }
+    ensures left { bytes_left result ≤ length rest.now }
 {
+    let cut = next_token(rest, place, len);
     Tokens {
         rest: cut.rest,
         place: cut.place,
@@ -206,14 +180,7 @@ fn mark_of(token: Token<'_>) -> Option<Mark>
     Some(mark)
 }
 
-// Whether two marks are one.
-fn same(mark: Mark, other: Mark) -> bool
-    ensures { result ≡ (code mark == code other) }
-{
-    mark as u8 == other as u8
-}
-
-// The value of a few digits.
+// The value of a few digits; that no sum is too large depends on how far the loop has come, which a fold cannot say.
 fn value(digits: &[u8]) -> usize
     requires { length digits.now ≤ 3 }
     ensures { result ≡ value_of digits.now }

@@ -1,5 +1,5 @@
 use Rattle.std.proofs.Common.{◌≡◌, ℕ, ◌+◌, ◌-◌, ◌≤◌, List, ◌∷◌, length, take, drop, sym, ap, ◌∙◌, arith, length-drop, rules}
-use Rattle.std.proofs.lemmas.List.{take_rest, drop_all, nil_from_length}
+use Rattle.std.proofs.lemmas.List.{take_rest, nil_from_length}
 use Rattle.std.proofs.lemmas.Bool.{eqb-true, eqb-false}
 use Rattle.tokens.specs.Items.{at, flaw, items, view}
 use Rattle.tokens.specs.Lexing.{token}
@@ -9,14 +9,14 @@ use Rattle.tokens.proofs.lexer.next_token.Goals as goal
 pub returns-then-is_empty : goal.returns-then-is_empty
 returns-then-is_empty c =
     let s = c.args.text.now in
-    let n = c.front-n.result in
+    let n = c.spaces-n.result in
     let cut = take_rest s n in
     let rest : List ℕ = take (length s - n) (drop n s) in
     let none : length rest ≡ 0 = eqb-true (length rest) 0 (sym c.if-is_empty.ensures) in
     let p = c.args.place in
     record {
-      items = items_done s p (sym (ap (λ x. token x (p + n)) (nil_from_length rest none)) ∙ after_space s rest p n c.front-n.ensures.count cut);
-      inside = omega (arith, ap length cut, length-drop n s, c.front-n.ensures.inside);
+      items = items_done s p (sym (ap (λ x. token x (p + n)) (nil_from_length rest none)) ∙ after_space s rest p n c.spaces-n.ensures.count cut);
+      inside = omega (arith, ap length cut, length-drop n s, c.spaces-n.ensures.inside);
       shorter = omega arith;
       brief = omega arith;
     }
@@ -24,7 +24,7 @@ returns-then-is_empty c =
 pub returns-in-Ok : goal.returns-in-Ok
 returns-in-Ok c =
     let s = c.args.text.now in
-    let n = c.front-n.result in
+    let n = c.spaces-n.result in
     let cut = take_rest s n in
     let rest : List ℕ = take (length s - n) (drop n s) in
     let p = c.args.place in
@@ -33,8 +33,8 @@ returns-in-Ok c =
     let left = take_rest rest size in
     record {
       items = ap (λ x. at (view c.in-Ok.token) (p + n) ∷ items x (p + n + size)) left
-          ∙ items_got s p _ _ (drop size rest) _ (told.token ∙ after_space s rest p n c.front-n.ensures.count cut);
-      inside = omega (arith, ap length cut, ap length left, length-drop n s, length-drop size rest, c.front-n.ensures.inside, told.inside);
+          ∙ items_got s p _ _ (drop size rest) _ (told.token ∙ after_space s rest p n c.spaces-n.ensures.count cut);
+      inside = omega (arith, ap length cut, ap length left, length-drop n s, length-drop size rest, c.spaces-n.ensures.inside, told.inside);
       shorter = omega (arith, ap length cut, ap length left, length-drop n s, shrinks rest (p + n) _ _ (drop size rest) _ told.token);
       brief = told.brief;
     }
@@ -42,18 +42,16 @@ returns-in-Ok c =
 pub returns-in-Err : goal.returns-in-Err
 returns-in-Err c =
     let s = c.args.text.now in
-    let n = c.front-n.result in
+    let n = c.spaces-n.result in
     let cut = take_rest s n in
     let rest : List ℕ = take (length s - n) (drop n s) in
     let p = c.args.place in
-    let len = c.args.len in
     let told = c.in-Err.ensures in
-    let left = take_rest rest (length rest) ∙ drop_all (length rest) rest (omega arith) in
     let some : length rest ≡ 0 → ⊥ = eqb-false (length rest) 0 (sym c.if-is_empty.ensures) in
     record {
-      items = ap (λ x. flaw c.in-Err.fault ∷ items x len) left ∙ ap (λ x. flaw c.in-Err.fault ∷ x) (items_nil len)
-          ∙ items_bad s p c.in-Err.fault (told.token ∙ after_space s rest p n c.front-n.ensures.count cut);
-      inside = omega (arith, ap length left);
-      shorter = let some : 1 ≤ length rest = search rules in omega (arith, ap length left, ap length cut, length-drop n s);
+      items = ap (λ x. flaw c.in-Err.fault ∷ x) (items_nil c.args.len)
+          ∙ items_bad s p c.in-Err.fault (told.token ∙ after_space s rest p n c.spaces-n.ensures.count cut);
+      inside = omega arith;
+      shorter = let some : 1 ≤ length rest = search rules in omega (arith, ap length cut, length-drop n s);
       brief = omega arith;
     }

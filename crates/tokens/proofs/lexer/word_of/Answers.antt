@@ -1,10 +1,8 @@
-use Rattle.std.proofs.Common.{sym, ◌∙◌}
-use Rattle.tokens.proofs.Reserved.{word_found, word_none}
+use Rattle.tokens.specs.Classes.{reserved}
+use Rattle.tokens.proofs.Reserved.{word_found, copied_at}
 use Rattle.tokens.proofs.lexer.word_of.Goals as goal
 
-pub returns-in-Some : goal.returns-in-Some
-returns-in-Some c =
-    word_found c.args.s.now c.in-Some.i _ (sym c.in-Some.is ∙ c.lookup.ensures.value) c.in-Some.ensures.first.inside
-
-pub returns-in-None : goal.returns-in-None
-returns-in-None c = word_none c.args.s.now (sym c.in-None.is ∙ c.lookup.ensures.value)
+pub returns : goal.returns
+returns c =
+    word_found c.args.s.now c.in_ok-lookup.field-0 c.copied.result c.in_ok-lookup.ensures.value
+    (copied_at reserved c.in_ok-lookup.field-0 c.get.result c.copied.result c.get.ensures.lookup c.copied.ensures)

@@ -1,6 +1,0 @@
-use Rattle.tokens.specs.Cursors.{cursor, head}
-use Rattle.tokens.proofs.tokens.Tokens.place.Goals as goal
-
-pub returns : goal.returns
-unfolding cursor head
-returns c = c.next_place.ensures
