@@ -1,12 +1,12 @@
 -- One turn more of what is read any number of times, and its end.
-use Rattle.std.proofs.Common.{◌≡◌, ℕ, zero, suc, ◌-◌, ◌<◌, true, false, List, Some, None, Ok, Err, refl, ap, ◌∙◌, sym, arith}
+use Rattle.std.proofs.Common.{◌≡◌, ℕ, zero, suc, ◌-◌, ◌<◌, true, false, List, Some, None, refl, ap, ◌∙◌, sym, arith}
 use Rattle.std.proofs.lemmas.Bool.{cond-true, cond-false}
 use Rattle.problem.specs.declared.relation.Mutability.{Mutability}
 use Rattle.problem.specs.declared.relation.Arity.{Arity}
 use Rattle.tokens.specs.declared.mark.Mark.TheVariants as mark
 use Rattle.tokens.specs.Items.{is_mark}
 use Rattle.tokens.specs.Cursors.{Cursor, head, step}
-use Rattle.declaring.specs.Outcomes.{Outcome, ok, then, perhaps}
+use Rattle.tokens.specs.Outcomes.{ok, then, perhaps}
 use Rattle.declaring.specs.Sets.{Listed, tuple, tuples}
 use Rattle.declaring.specs.Known.{Known}
 use Rattle.declaring.specs.Declaring.{atom, further_atoms, mutability_of, relation, relations}

@@ -1,5 +1,6 @@
 -- How the declarations of a text are read, one line a production, for src/declare. Assumes nothing.
-use Rattle.std.specs.Prelude.{ℕ, zero, suc, Bool, cond, List, Some, None, Option}
+use Rattle.std.specs.Prelude.{ℕ, zero, suc, cond, List, Some, None, Option}
+use Rattle.std.specs.Option.{option_and_then}
 use Rattle.problem.specs.declared.relation.Mutability.{Mutability}
 use Rattle.problem.specs.declared.relation.Mutability.TheVariants.{Fixed, Mutable}
 use Rattle.problem.specs.declared.relation.Arity.{Arity}
@@ -8,10 +9,10 @@ use Rattle.tokens.specs.declared.mark.Mark.TheVariants as mark
 use Rattle.tokens.specs.declared.token.Word.{Word}
 use Rattle.tokens.specs.declared.token.Word.TheVariants as words
 use Rattle.tokens.specs.Lexing.{Tok, name, word, number, sign, end}
-use Rattle.tokens.specs.Items.{Item, at, flaw, place_of, name_of, number_of, is_mark}
+use Rattle.tokens.specs.Items.{Item, token_of, place_of, name_of, number_of, is_mark}
 use Rattle.tokens.specs.Cursors.{Cursor, head, step}
-use Rattle.declaring.specs.Outcomes.{Outcome, ok, then, refused, take, taking, perhaps, check, alter}
-use Rattle.declaring.specs.Sets.{Listed, outside, tuple_set, most_text}
+use Rattle.tokens.specs.Outcomes.{Outcome, ok, then, take, taking, perhaps, check, alter}
+use Rattle.declaring.specs.Sets.{outside, tuple_set, most_text}
 use Rattle.declaring.specs.Known.{Known, Framed, atomed, nameable, related, arity_given, within, horizon_given}
 
 -- NAME, an atom that is declared
@@ -49,12 +50,8 @@ mutability_in (number s) = None
 mutability_in (sign s) = None
 mutability_in end = None
 
-abbrev pub mutability_at : Item → Option Mutability
-mutability_at (at t p) = mutability_in t
-mutability_at (flaw f) = None
-
 unfoldable pub mutability_of : Item → Option Mutability
-mutability_of i = mutability_at i
+mutability_of i = option_and_then mutability_in (token_of i)
 
 -- NUMBER, an arity
 abbrev pub arity : Cursor → Outcome (Unit {0}) Arity

@@ -12,7 +12,7 @@ use Rattle.problem.specs.Relations.{Declared, arity_of}
 use Rattle.problem.specs.Declarations.{atoms_of, relations_of, declared_name}
 use Rattle.problem.specs.Free.{fitness}
 use Rattle.tokens.specs.Cursors.{Cursor}
-use Rattle.declaring.specs.Outcomes.{Outcome, ok, fail, Change, changed, unfit}
+use Rattle.tokens.specs.Outcomes.{Outcome, ok, fail, Change, changed, unfit}
 
 -- the names of the atoms, and the relations
 pub record Known : Type 0 where

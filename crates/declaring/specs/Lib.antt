@@ -1,4 +1,4 @@
-pub mod Outcomes
 pub mod Sets
 pub mod Known
 pub mod Declaring
+pub mod Readers

@@ -1,5 +1,5 @@
 -- How a set of tuples is read, for src/tuples and src/sets. Assumes nothing.
-use Rattle.std.specs.Prelude.{ℕ, zero, suc, ◌+◌, ◌*◌, min, Bool, true, false, cond, not, ◌&&◌, List, [], ◌∷◌, length, set, replicate, Some, None, Ok, Err, Option, Result, slice_index_or, slice_set}
+use Rattle.std.specs.Prelude.{ℕ, zero, suc, ◌+◌, ◌*◌, min, Bool, true, false, cond, not, ◌&&◌, List, [], ◌∷◌, length, replicate, Some, None, Ok, Err, Option, Result, slice_index_or, slice_set}
 use Rattle.faults.specs.declared.Fault.{Fault}
 use Rattle.faults.specs.declared.Fault.TheVariants.{NameUnknown, ArityMismatch}
 use Rattle.names.specs.Lookups.{index_of}
@@ -9,7 +9,7 @@ use Rattle.tokens.specs.declared.mark.Mark.TheVariants as mark
 use Rattle.tokens.specs.Items.{place_of, name_of, is_mark}
 use Rattle.tokens.specs.Cursors.{Cursor, head}
 use Rattle.declaring.specs.declared.tuples.Tuples.{Tuples}
-use Rattle.declaring.specs.Outcomes.{Outcome, ok, fail, then, take, taking, perhaps, check}
+use Rattle.tokens.specs.Outcomes.{Outcome, ok, fail, then, take, taking, perhaps, check}
 
 -- which tuples a set has, and where each stands first
 pub record Listed : Type 0 where

@@ -1,6 +1,6 @@
 ghost use Rattle.std.specs.Prelude.{◌≡◌, Ok, Err, MatchResult};
 ghost use Rattle.names.specs.Names.{spelling};
-ghost use Rattle.declaring.specs.Outcomes.{changes};
+ghost use Rattle.tokens.specs.Outcomes.{changes};
 ghost use Rattle.declaring.specs.Known.{known, framed, taken as taken_in, atomed, nameable, related, arity_given, horizon_given};
 ghost use Rattle.problem.specs.Relations.{declared_of};
 
@@ -13,10 +13,7 @@ use problem::{Arity, Declarations, MOST_RELATIONS, Relation, Signature, Unfit};
 fn taken(declared: &Declarations, name: &[u8]) -> bool
     ensures { result ≡ taken_in name.now (known declared.now) }
 {
-    if lookup(declared.atoms(), name).is_some() {
-        return true;
-    }
-    lookup(declared.relations(), name).is_some()
+    lookup(declared.atoms(), name).is_some() || lookup(declared.relations(), name).is_some()
 }
 
 // Declares an atom, whose name stands at a place.
@@ -27,10 +24,9 @@ pub fn declare_atom(declared: &mut Declarations, name: Name, place: usize) -> Re
     if taken(declared, name.as_bytes()) {
         return Err(Fault::NameKnown { place });
     }
-    if !declared.add_atom(name) {
-        return Err(Fault::OverLimit { place });
-    }
-    Ok(())
+    declared
+        .add_atom(name)
+        .map_err(|_| Fault::OverLimit { place })
 }
 
 // Whether a relation may be declared with a name that stands at a place.
@@ -60,10 +56,7 @@ pub fn declare_relation(declared: &mut Declarations, relation: Relation)
 pub fn arity_given(number: usize, place: usize) -> Result<Arity, Fault>
     ensures { result ≡ arity_given number place }
 {
-    match Arity::new(number) {
-        Some(arity) => Ok(arity),
-        None => Err(Fault::OverLimit { place }),
-    }
+    Arity::try_from(number).map_err(|_| Fault::OverLimit { place })
 }
 
 // What is declared with a horizon, whose number stands at a place.
@@ -71,9 +64,8 @@ pub fn arity_given(number: usize, place: usize) -> Result<Arity, Fault>
 pub fn with_horizon(declared: Declarations, number: usize, place: usize) -> Result<Signature, Fault>
     ensures { MatchResult result (λ s. horizon_given (known declared) number place ≡ Ok (framed s)) (λ f. horizon_given (known declared) number place ≡ Err f) }
 {
-    match Signature::new(declared, number) {
-        Ok(signature) => Ok(signature),
-        Err(Unfit::Limit) => Err(Fault::OverLimit { place }),
-        Err(Unfit::FreePlaces) => Err(Fault::TooManyFreePlaces { place }),
-    }
+    Signature::new(declared, number).map_err(|unfit| match unfit {
+        Unfit::Limit => Fault::OverLimit { place },
+        Unfit::FreePlaces => Fault::TooManyFreePlaces { place },
+    })
 }

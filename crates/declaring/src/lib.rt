@@ -3,7 +3,10 @@
 
 mod declare;
 mod known;
+mod reader;
 mod sets;
 mod tuples;
 
-pub use declare::{read_declarations, read_horizon};
+pub use declare::read_horizon;
+pub use reader::Reader;
+pub use sets::MOST_TEXT;

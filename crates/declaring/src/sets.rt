@@ -2,81 +2,86 @@ ghost use Rattle.std.specs.Prelude.{◌≡◌, ◌<◌, ◌≤◌, length, IfSom
 ghost use Rattle.names.specs.Names.{spelling};
 ghost use Rattle.problem.specs.Declarations.{atoms_of};
 ghost use Rattle.tokens.specs.Cursors.{cursor};
-ghost use Rattle.declaring.specs.Outcomes.{told};
+ghost use Rattle.tokens.specs.Outcomes.{told};
 ghost use Rattle.declaring.specs.Sets.{listed, atom_named, atom_number, second_number, numbered, tuple as tuple_of, tuples as tuples_of, tuple_set, set_told, most_text};
 
+use super::reader::Reader;
 use super::tuples::Tuples;
 use faults::Fault;
-use names::{Name, Named, lookup};
+use names::{Name, lookup};
 use problem::{Arity, Declarations};
-use tokens::{Mark, Tokens};
+use tokens::Mark;
 
 // The most bytes of a text, so more than it has tuples.
 pub const MOST_TEXT: usize = 8192;
 
-// Reads a set of tuples.
-pub fn read_set(
-    tokens: &mut Tokens<'_>,
-    declared: &Declarations,
-    arity: Arity,
-) -> Result<Tuples, Fault>
-    ensures { set_told result (cursor tokens.new) ≡ tuple_set (atoms_of declared.now) arity (cursor tokens.old) }
-{
-    tokens.expect(Mark::OpenBrace)?;
-    let mut tuples = Tuples::new();
-    read_tuples(tokens, declared, arity, &mut tuples)?;
-    tokens.expect(Mark::CloseBrace)?;
-    Ok(tuples)
-}
-
-// Reads the tuples of a set.
-#[tactic(auto, using(crate::proofs::Turns::tuples_none, crate::proofs::Turns::tuples_end, crate::proofs::Turns::tuples_more))]
-fn read_tuples(
-    tokens: &mut Tokens<'_>,
-    declared: &Declarations,
-    arity: Arity,
-    tuples: &mut Tuples,
-) -> Result<(), Fault>
-    ensures { told result (cursor tokens.new) (listed tuples.new) ≡ tuples_of most_text (atoms_of declared.now) arity (cursor tokens.old) (listed tuples.old) }
-{
-    'tuples: for _turn in 0..MOST_TEXT {
-        if !tokens.is(Mark::OpenParen) {
-            break;
-        }
-        read_tuple(tokens, declared, arity, tuples)?;
+impl<'a> Reader<'a> {
+    // Reads a set of tuples.
+    pub(super) fn set(&mut self, arity: Arity) -> Result<Tuples, Fault>
+        ensures value { set_told result (cursor self.new.tokens) ≡ tuple_set (atoms_of self.old.declared) arity (cursor self.old.tokens) }
+        ensures kept { self.new.declared ≡ self.old.declared }
+    {
+        self.tokens.expect(Mark::OpenBrace)?;
+        let mut tuples = Tuples::new();
+        self.tuples(arity, &mut tuples)?;
+        self.tokens.expect(Mark::CloseBrace)?;
+        Ok(tuples)
     }
-    Ok(())
-}
 
-// Reads one tuple.
-fn read_tuple(
-    tokens: &mut Tokens<'_>,
-    declared: &Declarations,
-    arity: Arity,
-    tuples: &mut Tuples,
-) -> Result<(), Fault>
-    ensures { told result (cursor tokens.new) (listed tuples.new) ≡ tuple_of (atoms_of declared.now) arity (cursor tokens.old) (listed tuples.old) }
-{
-    let place = tokens.expect(Mark::OpenParen)?;
-    let first = read_atom(tokens, declared)?;
-    let second = read_second(tokens, declared)?;
-    tokens.expect(Mark::CloseParen)?;
-    let tuple = number(arity, declared.atom_count(), first, second, place)?;
-    tuples.note(tuple, place);
-    Ok(())
-}
+    // Reads the tuples of a set.
+    #[tactic(auto, using(crate::proofs::Turns::tuples_none, crate::proofs::Turns::tuples_end, crate::proofs::Turns::tuples_more))]
+    fn tuples(&mut self, arity: Arity, tuples: &mut Tuples) -> Result<(), Fault>
+        ensures value { told result (cursor self.new.tokens) (listed tuples.new) ≡ tuples_of most_text (atoms_of self.old.declared) arity (cursor self.old.tokens) (listed tuples.old) }
+        ensures kept { self.new.declared ≡ self.old.declared }
+    {
+        'tuples: for _turn in 0..MOST_TEXT {
+            if !self.tokens.is(Mark::OpenParen) {
+                break;
+            }
+            self.tuple(arity, tuples)?;
+        }
+        Ok(())
+    }
 
-// Reads the name of an atom: its number.
-fn read_atom(tokens: &mut Tokens<'_>, declared: &Declarations) -> Result<usize, Fault>
-    ensures value { told result (cursor tokens.new) tt ≡ atom_number (atoms_of declared.now) (cursor tokens.old) }
-    ensures small { IfOk result (λ i. i < 8) }
-{
-    let place = tokens.place();
-    let Some(name) = tokens.name() else {
-        return Err(tokens.refuse());
-    };
-    tokens.advance();
-    atom_named(declared, name, place)
+    // Reads one tuple.
+    fn tuple(&mut self, arity: Arity, tuples: &mut Tuples) -> Result<(), Fault>
+        ensures value { told result (cursor self.new.tokens) (listed tuples.new) ≡ tuple_of (atoms_of self.old.declared) arity (cursor self.old.tokens) (listed tuples.old) }
+        ensures kept { self.new.declared ≡ self.old.declared }
+    {
+        let place = self.tokens.expect(Mark::OpenParen)?;
+        let first = self.number()?;
+        let second = self.second_number()?;
+        self.tokens.expect(Mark::CloseParen)?;
+        let tuple = number(arity, self.declared.atom_count(), first, second, place)?;
+        tuples.note(tuple, place);
+        Ok(())
+    }
+
+    // Reads the name of an atom: its number.
+    fn number(&mut self) -> Result<usize, Fault>
+        ensures value { told result (cursor self.new.tokens) tt ≡ atom_number (atoms_of self.old.declared) (cursor self.old.tokens) }
+        ensures small { IfOk result (λ i. i < 8) }
+        ensures kept { self.new.declared ≡ self.old.declared }
+    {
+        let place = self.tokens.place();
+        let Some(name) = self.tokens.name() else {
+            return Err(self.tokens.refuse());
+        };
+        self.tokens.advance();
+        atom_named(&self.declared, name, place)
+    }
+
+    // Reads a second atom, if there is one.
+    fn second_number(&mut self) -> Result<Option<usize>, Fault>
+        ensures value { told result (cursor self.new.tokens) tt ≡ second_number (atoms_of self.old.declared) (cursor self.old.tokens) }
+        ensures small { IfOk result (λ o. IfSome o (λ i. i < 8)) }
+        ensures kept { self.new.declared ≡ self.old.declared }
+    {
+        if self.tokens.name().is_none() {
+            return Ok(None);
+        }
+        Ok(Some(self.number()?))
+    }
 }
 
 // The number of the atom with a name.
@@ -85,21 +90,7 @@ fn atom_named(declared: &Declarations, name: Name, place: usize) -> Result<usize
     ensures value { result ≡ atom_named (spelling name) (atoms_of declared.now) place }
     ensures small { IfOk result (λ i. i < 8) }
 {
-    match lookup(declared.atoms(), name.as_bytes()) {
-        Some(atom) => Ok(atom),
-        None => Err(Fault::NameUnknown { place }),
-    }
-}
-
-// Reads a second atom, if there is one.
-fn read_second(tokens: &mut Tokens<'_>, declared: &Declarations) -> Result<Option<usize>, Fault>
-    ensures value { told result (cursor tokens.new) tt ≡ second_number (atoms_of declared.now) (cursor tokens.old) }
-    ensures small { IfOk result (λ o. IfSome o (λ i. i < 8)) }
-{
-    if tokens.name().is_none() {
-        return Ok(None);
-    }
-    Ok(Some(read_atom(tokens, declared)?))
+    lookup(declared.atoms(), name.as_bytes()).ok_or(Fault::NameUnknown { place })
 }
 
 // The number of a tuple, if its length fits the arity.

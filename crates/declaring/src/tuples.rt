@@ -4,7 +4,8 @@ use problem::TupleSet;
 
 mod calls;
 
-// A set of tuples as it was read, with the place where each stands first.
+// A set of tuples as it was read, with the place where each stands first. The set stays whole beside the places, since a
+// relation is made from it.
 #[derive(Clone, Copy)]
 pub struct Tuples {
     set: TupleSet,

@@ -3,3 +3,4 @@ pub mod Lexing
 pub mod Digits
 pub mod Items
 pub mod Cursors
+pub mod Outcomes

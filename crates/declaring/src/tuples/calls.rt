@@ -58,10 +58,7 @@ impl Tuples {
 fn stray(held: bool, allowed: bool, place: usize) -> Option<usize>
     ensures { result ≡ outside_at held place allowed }
 {
-    if held && !allowed {
-        return Some(place);
-    }
-    None
+    (held && !allowed).then_some(place)
 }
 
 // The smaller of two places that may be missing.

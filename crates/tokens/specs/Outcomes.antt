@@ -1,4 +1,4 @@
--- Steps of reading declarations, and how they follow one another. Assumes nothing.
+-- Steps of reading a text, and how they follow one another, for all that reads tokens. Assumes nothing.
 use Rattle.std.specs.Prelude.{ℕ, Some, None, Ok, Err, Option, Result}
 use Rattle.faults.specs.declared.Fault.{Fault}
 use Rattle.tokens.specs.declared.mark.Mark.{Mark}
@@ -50,6 +50,6 @@ abbrev pub changes : {Z X : Type 0} → Result X Fault → Z → Change Z X
 changes (Ok x) z = changed x z
 changes (Err f) z = unfit f
 
-abbrev pub alter : {Z X Y : Type 0} → Change Z X → Cursor → (X → Z → Outcome Z Y) → Outcome Z Y
+abbrev pub alter : {Z W X Y : Type 0} → Change Z X → Cursor → (X → Z → Outcome W Y) → Outcome W Y
 alter (changed x z) c k = k x z
 alter (unfit f) c k = fail f c

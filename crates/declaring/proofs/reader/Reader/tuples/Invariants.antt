@@ -1,0 +1,12 @@
+use Rattle.std.proofs.Common.{◌≡◌, ◌-◌}
+use Rattle.problem.specs.Declarations.{atoms_of}
+use Rattle.tokens.specs.Cursors.{cursor}
+use Rattle.declaring.specs.Sets.{listed, tuples, most_text}
+use Rattle.declaring.proofs.reader.Reader.tuples.Given as goal
+
+abbrev pub invariant-tuples : goal.invariant-tuples
+invariant-tuples l = record {
+  value : tuples (most_text - l._turn) (atoms_of l.fn.self.declared) l.arity (cursor l.self.tokens) (listed l.tuples)
+      ≡ tuples most_text (atoms_of l.fn.self.declared) l.arity (cursor l.fn.self.tokens) (listed l.fn.tuples);
+  kept : l.self.declared ≡ l.fn.self.declared;
+}
