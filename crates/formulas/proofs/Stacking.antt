@@ -4,10 +4,11 @@ use Rattle.std.proofs.lemmas.List.{length-map, length-reverse, length-take-le, l
 use Rattle.std.proofs.lemmas.Bool.{lt-ltb, le-ltb}
 use Rattle.faults.specs.declared.Fault.TheVariants.{OverLimit}
 use Rattle.stack.specs.declared.stack.Stack.{Stack}
-use Rattle.stack.specs.Stacks.{entries, room, Pushed, Full, Popped}
+use Rattle.stack.specs.Stacks.{entries, room, Pushed, NotPushed, Popped}
 use Rattle.formulas.specs.declared.sketch.Bracket.{Bracket}
 use Rattle.formulas.specs.Bodies.{place_of_bracket, opens}
-use Rattle.formulas.specs.Outcomes.{changed, unfit, opened, closed, latest}
+use Rattle.tokens.specs.Outcomes.{changed, unfit}
+use Rattle.formulas.specs.Outcomes.{opened, closed, latest}
 use Rattle.formulas.proofs.Steps.{both}
 
 height : (s : Stack Bracket) → s.count ≤ room s → length (map place_of_bracket (reverse (entries s))) ≡ s.count
@@ -25,7 +26,7 @@ opened_more p x s t h q =
     both (λ (m : ℕ) (ps : List ℕ). changed tt (record { limit = m; places = ps })) (ap length q.lent ∙ length-set _ _ _) (newest (entries s) (entries t) x q.held ∙ ap (λ i. i ∷ map place_of_bracket (reverse (entries s))) h)
     ∙ sym (ap (λ c. cond c (changed tt (record { limit = room s; places = p ∷ map place_of_bracket (reverse (entries s)) })) (unfit (OverLimit p))) (lt-ltb n (room s) low))
 
-pub opened_full : (p : ℕ) (s t : Stack Bracket) → Full s t → unfit (OverLimit p) ≡ opened p (opens s)
+pub opened_full : (p : ℕ) (s t : Stack Bracket) → NotPushed s t → unfit (OverLimit p) ≡ opened p (opens s)
 unfolding opens opened
 opened_full p s t q =
     let n = length (map place_of_bracket (reverse (entries s))) in

@@ -11,8 +11,12 @@ use Rattle.problem.specs.declared.sort.Sort.{Sort}
 use Rattle.problem.specs.declared.sort.Kind.{Kind}
 use Rattle.problem.specs.declared.sort.Misfit.{Misfit}
 use Rattle.problem.specs.Sorts.{placed}
-use Rattle.formulas.specs.Bodies.{Body}
-use Rattle.formulas.specs.Outcomes.{changed, unfit, arities_of, names_of, misfitting, placing, putting, meant, as_variable, as_relation, resolved, scoped, bound}
+use Rattle.problem.specs.Declarations.{atoms_of, relations_of}
+use Rattle.problem.specs.Drafts.{nodes_of, sorts_of}
+use Rattle.formulas.specs.declared.sketch.Sketch.{Sketch}
+use Rattle.formulas.specs.Bodies.{Body, body, name_of_variable}
+use Rattle.tokens.specs.Outcomes.{changed, unfit}
+use Rattle.formulas.specs.Outcomes.{arities_of, names_of, misfitting, placing, putting, meant, as_variable, as_relation, resolved, scoped, bound, unbound}
 
 -- a function of two, from equal parts
 pub both : {X Y Z : Type 0} (f : X → Y → Z) {a b : X} {c d : Y} → a ≡ b → c ≡ d → f a c ≡ f b d
@@ -25,6 +29,21 @@ mapped_len f v = length-map v.items f ∙ sym v.ok.0
 -- all but the last, name by name
 pub mapped_front : {X Y Z : Type 0} (f : X → Y) (v : Vec X Z) (xs : List X) → xs ≡ front (v.len - 1) v.items → map f xs ≡ front (length (map f v.items) - 1) (map f v.items)
 mapped_front f v xs e = ap (map f) e ∙ sym (take-map f (v.len - 1) v.items) ∙ ap (λ n. front (n - 1) (map f v.items)) (sym (mapped_len f v))
+
+-- one variable fewer
+pub unbinding : (s t : Sketch) → t.draft ≡ s.draft → t.parts ≡ s.parts → t.scope.items ≡ front (s.scope.len - 1) s.scope.items → body t ≡ unbound (body s)
+unfolding body unbound
+unbinding s t d p e =
+    let xs = mapped_front name_of_variable s.scope t.scope.items e in
+    λ j. record {
+      atoms = atoms_of (d j).signature.declared;
+      relations = relations_of (d j).signature.declared;
+      horizon = (d j).signature.horizon;
+      nodes = nodes_of (d j);
+      sorts = sorts_of (d j);
+      scope = xs j;
+      parts = p j;
+    }
 
 -- one variable more
 pub bound_more : (x : List ℕ) (p n : ℕ) (xs : List (List ℕ)) (b : Body) → n ≡ length b.scope → ltb n 4 ≡ true → xs ≡ b.scope ++ x ∷ [] → changed n (scoped xs b) ≡ bound x p b

@@ -1,7 +1,6 @@
 -- A formula that was read is whole: a reading leaves the variables in scope as they were, and its last node uses no others.
 use Rattle.std.proofs.Common.{◌≡◌, ℕ, zero, suc, ◌-◌, ◌<◌, ◌≤◌, Bool, true, false, cond, ltb, List, [], ◌∷◌, ◌++◌, length, take as front, Some, None, Ok, Err, Option, Result, refl, ap, ◌∙◌, subst, arith}
 use Rattle.std.proofs.Math.Seq.{take-append_seam}
-use Rattle.std.proofs.lemmas.Bool.{eqb-true}
 use Rattle.std.proofs.lemmas.List.{get_or_push, length_push}
 use Rattle.faults.specs.declared.Fault.{Fault}
 use Rattle.problem.specs.declared.node.Node.{Node}
@@ -12,27 +11,28 @@ use Rattle.problem.specs.declared.sort.Kind.{Kind}
 use Rattle.problem.specs.declared.sort.Kind.TheVariants as kind
 use Rattle.problem.specs.declared.sort.Misfit.{Misfit}
 use Rattle.problem.specs.declared.sort.Misfit.TheVariants as misfit
-use Rattle.problem.specs.Sorts.{wanted, judge, no_sort, arity_at, bound_at, most_parts, Whole}
+use Rattle.problem.specs.Sorts.{wanted, judge, no_sort, sort_at, is_formula, sort_bound, bound_at, most_parts, Whole}
 use Rattle.problem.proofs.Judging.{wanted_inv}
 use Rattle.tokens.specs.declared.mark.Mark.{Mark}
 use Rattle.tokens.specs.declared.mark.Mark.TheVariants as mark
 use Rattle.tokens.specs.Items.{is_mark}
 use Rattle.tokens.specs.Cursors.{Cursor, head, step, expected}
 use Rattle.formulas.specs.declared.wish.Wish.{Wish}
-use Rattle.formulas.specs.declared.wish.Wish.TheVariants.{Any}
 use Rattle.formulas.specs.declared.start.Start.{Start}
 use Rattle.formulas.specs.declared.start.Start.TheVariants as start
 use Rattle.formulas.specs.declared.sketch.calls.Meant.{Meant}
 use Rattle.formulas.specs.Bodies.{Body, Open}
-use Rattle.formulas.specs.Starts.{Head, h_name, h_constant, h_turn, h_open, h_other, head_of, start_of}
-use Rattle.formulas.specs.Outcomes.{Outcome, ok, fail, then, taking, check, Change, changed, unfit, alter, next, unless, counted, asked, arities_of, arity_in, placing, putting, leafed, naming, bindable, bound, unbound, closing}
+use Rattle.formulas.specs.Starts.{Head, h_name, h_constant, h_turn, h_open, head_of, start_of}
+use Rattle.tokens.specs.Outcomes as steps
+use Rattle.tokens.specs.Outcomes.{fail, taking, check, Change, changed, unfit, alter}
+use Rattle.formulas.specs.Outcomes.{Outcome, ok, then, next, unless, counted, asked, arities_of, arity_in, placing, putting, leafed, naming, bindable, bound, unbound, closing}
 use Rattle.formulas.specs.Expressions.{Primaries, settle as settle_expression, at_end, named, combined, prime, primes, primed, beginning as beginning_expression, primary, expression, after_name}
 use Rattle.formulas.specs.Formulas.{Formulas, Expressions, settle, tested, domain, some_by, beginning, formula}
 
 -- what holds of what is read so far, after a reading that does not fail
 abbrev After : (Body → Type 0) → Outcome ℕ → Type 0
-After P (ok x c b o) = P b
-After P (fail f c) = Unit {0}
+After P (steps.ok x c z) = P z.0
+After P (steps.fail f c) = Unit {0}
 
 -- a reader that goes from the one to the other
 abbrev Reads : (Body → Type 0) → (Body → Type 0) → Formulas → Type 0
@@ -46,8 +46,8 @@ Leaves P (unfit f) = Unit {0}
 -- each way to go on, from its parts
 module _ (P Q : Body → Type 0) where
   then_after : (r : Outcome ℕ) (k : ℕ → Cursor → Body → Open → Outcome ℕ) → After P r → ((x : ℕ) (c : Cursor) (b : Body) (o : Open) → P b → After Q (k x c b o)) → After Q (then r k)
-  then_after (ok x c b o) k h g = g x c b o h
-  then_after (fail f c) k h g = tt
+  then_after (steps.ok x c z) k h g = g x c z.0 z.1 h
+  then_after (steps.fail f c) k h g = tt
 
   alter_after : {X : Type 0} (z : Change Body X) (c : Cursor) (k : X → Body → Outcome ℕ) → Leaves P z → ((x : X) (b : Body) → P b → After Q (k x b)) → After Q (alter z c k)
   alter_after (changed x b) c k h g = g x b h
@@ -103,21 +103,21 @@ module _ (xs : List (List ℕ)) where
   unfolding putting
   putting_kept k n p b e = placing_kept _ n p b e
 
-  leafed_kept : (m : Meant) (p : ℕ) (u w : Wish) (b : Body) → Kept b → Leaves Kept (leafed m p u w b)
+  leafed_kept : (m : Meant) (p : ℕ) (u w : Option Wish) (b : Body) → Kept b → Leaves Kept (leafed m p u w b)
   leafed_kept m p u w b e = unless_leaves Kept (asked u m.arity) _ (λ _. unless_leaves Kept (asked w m.arity) _ (λ _. next_leaves Kept Kept (counted p b) _ (counted_kept p b e) (λ _ b₁ e₁. putting_kept _ _ p b₁ e₁)))
 
   settle_kept : (n : Node) (p : ℕ) → Reads Kept Kept (settle_expression n p)
   settle_kept n p c b o e = alter_after Kept Kept (putting kind.Expression n p b) c _ (putting_kept _ n p b e) (λ i b₁ e₁. e₁)
 
-  named_kept : (x : List ℕ) (p : ℕ) (u w : Wish) → Reads Kept Kept (named x p u w)
+  named_kept : (x : List ℕ) (p : ℕ) (u w : Option Wish) → Reads Kept Kept (named x p u w)
   named_kept x p u w c b o e = alter_after Kept Kept (naming x p u w b) c _ (unless_leaves Kept _ _ (λ m. leafed_kept m p u w b e)) (λ i b₁ e₁. e₁)
 
-  prime_kept : (p : ℕ) (w : Wish) (i : ℕ) → Reads Kept Kept (prime p w i)
+  prime_kept : (p : ℕ) (w : Option Wish) (i : ℕ) → Reads Kept Kept (prime p w i)
   prime_kept p w i c b o e =
       check_after Kept (asked (at_end w (step c)) (arity_in i b)) (step c) _ (λ _.
       alter_after Kept Kept (counted _ b) _ _ (counted_kept _ b e) (λ _ b₁ e₁. settle_kept _ p _ b₁ o e₁))
 
-  primes_kept : (n p : ℕ) (w : Wish) (i : ℕ) → Reads Kept Kept (primes n p w i)
+  primes_kept : (n p : ℕ) (w : Option Wish) (i : ℕ) → Reads Kept Kept (primes n p w i)
   unfolding primes
   primes_kept zero p w i c b o e = e
   primes_kept (suc n) p w i c b o e =
@@ -126,31 +126,31 @@ module _ (xs : List (List ℕ)) where
       e
 
   after_name_kept : (x : List ℕ) (p : ℕ) → Reads Kept Kept (after_name x p)
-  after_name_kept x p c b o e = then_after Kept Kept _ _ (named_kept x p Any Any c b o e) (λ i c₁ b₁ o₁ e₁. primes_kept most_parts p Any i c₁ b₁ o₁ e₁)
+  after_name_kept x p c b o e = then_after Kept Kept _ _ (named_kept x p None None c b o e) (λ i c₁ b₁ o₁ e₁. primes_kept most_parts p None i c₁ b₁ o₁ e₁)
 
   abbrev Keeps : Primaries → Type 0
-  Keeps f = (u w : Wish) → Reads Kept Kept (f u w)
+  Keeps f = (u w : Option Wish) → Reads Kept Kept (f u w)
 
-  primed_kept : (f : Primaries) → Keeps f → (w : Wish) → Reads Kept Kept (primed f w)
-  primed_kept f F w c b o e = then_after Kept Kept _ _ (F Any w c b o e) (λ i c₁ b₁ o₁ e₁. primes_kept most_parts _ w i c₁ b₁ o₁ e₁)
+  primed_kept : (f : Primaries) → Keeps f → (w : Option Wish) → Reads Kept Kept (primed f w)
+  primed_kept f F w c b o e = then_after Kept Kept _ _ (F None w c b o e) (λ i c₁ b₁ o₁ e₁. primes_kept most_parts _ w i c₁ b₁ o₁ e₁)
 
-  combined_kept : (n : Node) (u w : Wish) → Reads Kept Kept (combined n u w)
+  combined_kept : (n : Node) (u w : Option Wish) → Reads Kept Kept (combined n u w)
   combined_kept n u w c b o e = closing_after Kept _ _ c _ (λ p c₁ o₁. alter_after Kept Kept (putting _ n p b) c₁ _ (putting_kept _ n p b e) (λ i b₁ e₁. check_after Kept (asked u (arity_in i b₁)) c₁ _ (λ _. check_after Kept (asked (at_end w c₁) (arity_in i b₁)) c₁ _ (λ _. e₁))))
 
-  beginning_kept : (f : Primaries) → Keeps f → (h : Head) (u w : Wish) → Reads Kept Kept (beginning_expression f h u w)
-  beginning_kept f F (h_name x) u w c b o e = named_kept x _ u (at_end w (step c)) (step c) b o e
-  beginning_kept f F (h_constant k) u w c b o e = alter_after Kept Kept _ _ _ (leafed_kept _ _ u (at_end w (step c)) b e) (λ i b₁ e₁. e₁)
-  beginning_kept f F (h_turn t) u w c b o e =
+  beginning_kept : (f : Primaries) → Keeps f → (h : Option Head) (u w : Option Wish) → Reads Kept Kept (beginning_expression f h u w)
+  beginning_kept f F (Some (h_name x)) u w c b o e = named_kept x _ u (at_end w (step c)) (step c) b o e
+  beginning_kept f F (Some (h_constant k)) u w c b o e = alter_after Kept Kept _ _ _ (leafed_kept _ _ u (at_end w (step c)) b e) (λ i b₁ e₁. e₁)
+  beginning_kept f F (Some (h_turn t)) u w c b o e =
       alter_after Kept Kept (counted _ b) _ _ (counted_kept _ b e) (λ _ b₁ e₁.
       then_after Kept Kept _ _ (F _ w _ b₁ o e₁) (λ i c₂ b₂ o₂ e₂. settle_kept _ _ c₂ b₂ o₂ e₂))
-  beginning_kept f F h_open u w c b o e =
+  beginning_kept f F (Some h_open) u w c b o e =
       opening_after Kept _ _ _ (λ _ o₁.
-      then_after Kept Kept _ _ (primed_kept f F Any _ b o₁ e) (λ x c₂ b₂ o₂ e₂.
+      then_after Kept Kept _ _ (primed_kept f F None _ b o₁ e) (λ x c₂ b₂ o₂ e₂.
       taking_after Kept _ c₂ _ (λ s c₃.
       alter_after Kept Kept (counted _ b₂) c₃ _ (counted_kept _ b₂ e₂) (λ _ b₃ e₃.
-      then_after Kept Kept _ _ (primed_kept f F Any c₃ b₃ o₂ e₃) (λ y c₄ b₄ o₄ e₄.
+      then_after Kept Kept _ _ (primed_kept f F None c₃ b₃ o₂ e₃) (λ y c₄ b₄ o₄ e₄.
       combined_kept _ u w c₄ b₄ o₄ e₄)))))
-  beginning_kept f F h_other u w c b o e = tt
+  beginning_kept f F None u w c b o e = tt
 
   primary_kept : (n : ℕ) → Keeps (primary n)
   unfolding primary
@@ -161,7 +161,7 @@ module _ (xs : List (List ℕ)) where
 record Closed (xs : List (List ℕ)) (b : Body) : Type 0 where
   pub scope : b.scope ≡ xs
   pub some : 0 < length b.sorts
-  pub formula : arity_at b.sorts (length b.sorts - 1) ≡ 0
+  pub formula : is_formula (sort_at b.sorts (length b.sorts - 1)) ≡ true
   pub few : bound_at b.sorts (length b.sorts - 1) ≤ length xs
 
 placing_closed : (xs : List (List ℕ)) (t : Bool) (j r : Result Sort Misfit) (n : Node) (p : ℕ) (b : Body) → b.scope ≡ xs → cond t (wanted kind.Formula (length b.scope) j) (Err misfit.Room) ≡ r → Leaves (Closed xs) (placing r n p b)
@@ -172,8 +172,8 @@ placing_closed xs true j (Ok s) n p b e q =
     record {
       scope = e;
       some = omega arith;
-      formula = ap (λ (x : Sort). x.arity) g ∙ eqb-true s.arity 0 w.is_of_kind;
-      few = omega (arith, ap length e, ap (λ (x : Sort). x.bound) g);
+      formula = ap is_formula g ∙ w.is_of_kind;
+      few = omega (arith, ap length e, ap sort_bound g);
     }
 placing_closed xs false j (Ok s) n p b e q = absurd cc
 placing_closed xs t j (Err m) n p b e q = tt
@@ -200,9 +200,9 @@ unbound_kept xs x b e =
     ap (λ n. front n b.scope) l ∙ ap (front (length xs)) e ∙ take-append_seam xs (x ∷ [])
 
 -- a production of a formula, by readers of its parts
-module _ (xs : List (List ℕ)) (r : Expressions) (R : (w : Wish) → Reads (Kept xs) (Kept xs) (r w)) (f : Formulas) (F : (ys : List (List ℕ)) → Reads (Kept ys) (Closed ys) f) where
+module _ (xs : List (List ℕ)) (r : Expressions) (R : (w : Option Wish) → Reads (Kept xs) (Kept xs) (r w)) (f : Formulas) (F : (ys : List (List ℕ)) → Reads (Kept ys) (Closed ys) f) where
   tested_closed : (t : Test) (p : ℕ) → Reads (Kept xs) (Closed xs) (tested r t p)
-  tested_closed t p c b o e = then_after (Kept xs) (Closed xs) _ _ (R Any c b o e) (λ i c₁ b₁ o₁ e₁. settle_closed xs _ p c₁ b₁ o₁ e₁)
+  tested_closed t p c b o e = then_after (Kept xs) (Closed xs) _ _ (R None c b o e) (λ i c₁ b₁ o₁ e₁. settle_closed xs _ p c₁ b₁ o₁ e₁)
 
   domain_closed : (q : Quantifier) (p : ℕ) (x : List ℕ) (s : ℕ) → Reads (Kept xs) (Closed xs) (domain r f q p x s)
   domain_closed q p x s c b o e =
@@ -238,7 +238,7 @@ module _ (xs : List (List ℕ)) (r : Expressions) (R : (w : Wish) → Reads (Kep
   beginning_closed start.Some c b o e = counted_closed xs _ _ _ b e (λ b₁ e₁. some_closed _ _ (step c) b₁ o e₁)
   beginning_closed start.No c b o e = counted_closed xs _ _ _ b e (λ b₁ e₁. tested_closed _ _ (step c) b₁ o e₁)
   beginning_closed start.Expression c b o e =
-      then_after (Kept xs) (Closed xs) _ _ (R Any c b o e) (λ x c₁ b₁ o₁ e₁.
+      then_after (Kept xs) (Closed xs) _ _ (R None c b o e) (λ x c₁ b₁ o₁ e₁.
       taking_after (Closed xs) _ c₁ _ (λ s c₂.
       counted_closed xs _ c₂ _ b₁ e₁ (λ b₂ e₂.
       then_after (Kept xs) (Closed xs) _ _ (R _ c₂ b₂ o₁ e₂) (λ y c₃ b₃ o₃ e₃. settle_closed xs _ _ c₃ b₃ o₃ e₃))))

@@ -14,14 +14,13 @@ use Rattle.formulas.specs.declared.start.Head.TheVariants as head
 use Rattle.formulas.specs.declared.sketch.Variable.{Variable}
 use Rattle.formulas.specs.declared.sketch.Bracket.{Bracket}
 use Rattle.formulas.specs.declared.sketch.Sketch.{Sketch}
-use Rattle.formulas.specs.Starts.{Head as HeadOf, h_name, h_constant, h_turn, h_open, h_other}
+use Rattle.formulas.specs.Starts.{Head as HeadOf, h_name, h_constant, h_turn, h_open}
 
 abbrev pub head_seen : Head → HeadOf
 head_seen (head.Name n) = h_name (spelling n)
 head_seen (head.Constant c) = h_constant c
 head_seen (head.Turn t) = h_turn t
 head_seen head.Open = h_open
-head_seen head.Other = h_other
 
 -- what is declared, the nodes so far and what they are, the variables in scope, how many parts were counted
 pub record Body : Type 0 where

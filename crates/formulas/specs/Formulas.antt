@@ -12,13 +12,13 @@ use Rattle.tokens.specs.declared.mark.Mark.TheVariants as mark
 use Rattle.tokens.specs.Items.{place_of, name_of, is_mark}
 use Rattle.tokens.specs.Cursors.{Cursor, head, step}
 use Rattle.formulas.specs.declared.wish.Wish.{Wish}
-use Rattle.formulas.specs.declared.wish.Wish.TheVariants.{Any, Exactly}
 use Rattle.formulas.specs.declared.start.Start.{Start}
 use Rattle.formulas.specs.declared.start.Start.TheVariants as start
 use Rattle.formulas.specs.Bodies.{Body, Open}
 use Rattle.formulas.specs.Starts.{start_of, infix_of, comparison_of}
-use Rattle.formulas.specs.Outcomes.{Outcome, ok, then, refused, take, taking, check, alter, counted, putting, arity_in, bindable, bound, unbound, opened, closed, closing}
-use Rattle.formulas.specs.Expressions.{expression, after_name}
+use Rattle.tokens.specs.Outcomes.{refused, take, taking, check, alter}
+use Rattle.formulas.specs.Outcomes.{Outcome, ok, then, counted, putting, arity_in, bindable, bound, unbound, opened, closed, closing}
+use Rattle.formulas.specs.Expressions.{wish, expression, after_name}
 
 -- a reader of a formula
 abbrev pub Formulas : Type 0
@@ -26,7 +26,7 @@ Formulas = Cursor → Body → Open → Outcome ℕ
 
 -- a reader of an expression
 abbrev pub Expressions : Type 0
-Expressions = Wish → Cursor → Body → Open → Outcome ℕ
+Expressions = Option Wish → Cursor → Body → Open → Outcome ℕ
 
 -- a node whose first token is at p, after its last token
 abbrev pub settle : Node → ℕ → Cursor → Body → Open → Outcome ℕ
@@ -52,15 +52,15 @@ joined f p c b o =
 
 -- "some" or "no" E, after the word
 abbrev pub tested : Expressions → Test → ℕ → Formulas
-tested e t p c b o = then (e Any c b o) (λ i c₁ b₁ o₁. settle (node.Tested t i) p c₁ b₁ o₁)
+tested e t p c b o = then (e None c b o) (λ i c₁ b₁ o₁. settle (node.Tested t i) p c₁ b₁ o₁)
 
 -- E "in" E, E "=" E
 abbrev pub compared : Expressions → Formulas
 compared e c b o =
-    then (e Any c b o) (λ x c₁ b₁ o₁.
+    then (e None c b o) (λ x c₁ b₁ o₁.
     taking (comparison_of (head c₁)) c₁ (λ s c₂.
     alter (counted (place_of (head c₁)) b₁) c₂ (λ _ b₂.
-    then (e (Exactly (arity_in x b₂) (place_of (head c))) c₂ b₂ o₁) (λ y c₃ b₃ o₃.
+    then (e (Some (wish (arity_in x b₂) (place_of (head c)))) c₂ b₂ o₁) (λ y c₃ b₃ o₃.
     settle (node.Compared s x y) (place_of (head c)) c₃ b₃ o₃))))
 
 -- the F of a quantifier, in which its variable x is known
@@ -73,7 +73,7 @@ abbrev pub domain : Expressions → Formulas → Quantifier → ℕ → List ℕ
 domain e f q p x r c b o =
     check (bindable x r b) c (λ _.
     take mark.Colon c (λ _ c₁.
-    then (e (Exactly 1 (place_of (head c₁))) c₁ b o) (λ d c₂ b₂ o₂.
+    then (e (Some (wish 1 (place_of (head c₁)))) c₁ b o) (λ d c₂ b₂ o₂.
     take mark.Bar c₂ (λ _ c₃. scope f q p x r d c₃ b₂ o₂))))
 
 -- "all" NAME ":" E "|" F, after the word

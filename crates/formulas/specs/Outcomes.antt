@@ -14,60 +14,30 @@ use Rattle.problem.specs.declared.sort.Misfit.TheVariants as misfit
 use Rattle.problem.specs.Sorts.{placed, arity_at, constant_arity, most_parts, most_variables}
 use Rattle.problem.specs.Relations.{arity_number}
 use Rattle.tokens.specs.declared.mark.Mark.{Mark}
-use Rattle.tokens.specs.Items.{refusal}
-use Rattle.tokens.specs.Cursors.{Cursor, head, step, expected}
+use Rattle.tokens.specs.Cursors.{Cursor}
+use Rattle.tokens.specs.Outcomes as steps
+use Rattle.tokens.specs.Outcomes.{take, Change, changed, unfit, refused, alter}
 use Rattle.formulas.specs.declared.wish.Wish.{Wish}
-use Rattle.formulas.specs.declared.wish.Wish.TheVariants.{Any, Exactly}
 use Rattle.formulas.specs.declared.sketch.calls.Meant.{Meant}
 use Rattle.formulas.specs.Bodies.{Body, Open}
 
--- a value, what is left of the tokens, and what is read so far; or a fault and what is left after the token that settles it
-pub data Outcome (X : Type 0) : Type 0 where
-  ok : X → Cursor → Body → Open → Outcome X
-  fail : Fault → Cursor → Outcome X
+-- a value, what is left of the tokens, and what is read so far with the brackets that are open; or a fault
+abbrev pub Outcome : Type 0 → Type 0
+Outcome X = steps.Outcome (Body × Open) X
+
+abbrev pub ok : {X : Type 0} → X → Cursor → Body → Open → Outcome X
+ok x c b o = steps.ok x c (b, o)
 
 abbrev pub told : {X : Type 0} → Result X Fault → Cursor → Body → Open → Outcome X
-told (Ok x) c b o = ok x c b o
-told (Err f) c b o = fail f c
+told r c b o = steps.told r c (b, o)
 
 abbrev pub then : {X Y : Type 0} → Outcome X → (X → Cursor → Body → Open → Outcome Y) → Outcome Y
-then (ok x c b o) k = k x c b o
-then (fail f c) k = fail f c
+then r k = steps.then r (λ x c z. k x c z.0 z.1)
 
--- the next token cannot stand there
-abbrev pub refused : {X : Type 0} → Cursor → Outcome X
-refused c = fail (refusal (head c)) (step c)
-
--- the next token is of some kind
-abbrev pub taking : {X Y : Type 0} → Option X → Cursor → (X → Cursor → Outcome Y) → Outcome Y
-taking None c k = refused c
-taking (Some x) c k = k x (step c)
-
--- a test that the token before settles
-abbrev pub check : {X Y : Type 0} → Result X Fault → Cursor → (X → Outcome Y) → Outcome Y
-check (Ok x) c k = k x
-check (Err f) c k = fail f c
-
--- the next token is that mark: its place
-abbrev pub take : {Y : Type 0} → Mark → Cursor → (ℕ → Cursor → Outcome Y) → Outcome Y
-take m c k = check (expected m (head c)) (step c) (λ p. k p (step c))
-
--- what a step makes of what is read so far, or its fault
-pub data Change (Z X : Type 0) : Type 0 where
-  changed : X → Z → Change Z X
-  unfit : Fault → Change Z X
-
-abbrev pub changes : {Z X : Type 0} → Result X Fault → Z → Change Z X
-changes (Ok x) z = changed x z
-changes (Err f) z = unfit f
-
-abbrev pub alter : {Z X Y : Type 0} → Change Z X → Cursor → (X → Z → Outcome Y) → Outcome Y
-alter (changed x z) c k = k x z
-alter (unfit f) c k = fail f c
-
-abbrev pub asked : Wish → ℕ → Result (Unit {0}) Fault
-asked Any a = Ok tt
-asked (Exactly w p) a = cond (w == a) (Ok tt) (Err (ArityMismatch p))
+-- refuses an arity that is not asked for
+abbrev pub asked : Option Wish → ℕ → Result (Unit {0}) Fault
+asked None a = Ok tt
+asked (Some w) a = cond (w.arity == a) (Ok tt) (Err (ArityMismatch w.place))
 
 -- one step after another, on what is read so far alone
 abbrev pub next : {Z X Y : Type 0} → Change Z X → (X → Z → Change Z Y) → Change Z Y
@@ -127,10 +97,10 @@ unfoldable pub resolved : List ℕ → ℕ → Body → Result Meant Fault
 resolved x p b = as_variable (index_of x b.scope) x p b
 
 -- a name or constant, as a whole expression: its arity is judged before the part is counted
-abbrev pub leafed : Meant → ℕ → Wish → Wish → Body → Change Body ℕ
+abbrev pub leafed : Meant → ℕ → Option Wish → Option Wish → Body → Change Body ℕ
 leafed m p u w b = unless (asked u m.arity) (λ _. unless (asked w m.arity) (λ _. next (counted p b) (λ _ b₁. putting kind.Expression m.node p b₁)))
 
-abbrev pub naming : List ℕ → ℕ → Wish → Wish → Body → Change Body ℕ
+abbrev pub naming : List ℕ → ℕ → Option Wish → Option Wish → Body → Change Body ℕ
 naming x p u w b = unless (resolved x p b) (λ m. leafed m p u w b)
 
 abbrev pub known : List ℕ → Body → Bool

@@ -1,5 +1,6 @@
 -- What a token begins or is, where a formula or an expression is read, for src/start. Assumes nothing.
 use Rattle.std.specs.Prelude.{ℕ, List, take, Some, None, Option}
+use Rattle.std.specs.Option.{option_and_then, option_map_or}
 use Rattle.problem.specs.declared.node.Infix.{Infix}
 use Rattle.problem.specs.declared.node.Operator.{Operator}
 use Rattle.problem.specs.declared.node.Comparison.{Comparison}
@@ -11,60 +12,55 @@ use Rattle.tokens.specs.declared.token.Word.TheVariants as words
 use Rattle.tokens.specs.declared.token.Sign.{Sign}
 use Rattle.tokens.specs.declared.token.Sign.TheVariants as signs
 use Rattle.tokens.specs.Lexing.{Tok, name, word, number, sign, end}
-use Rattle.tokens.specs.Items.{Item, at, flaw}
+use Rattle.tokens.specs.Items.{Item, token_of}
 use Rattle.formulas.specs.declared.start.Start.{Start}
 use Rattle.formulas.specs.declared.start.Start.TheVariants as start
 
--- what an expression begins with
+-- what an expression begins with, where one may begin
 pub data Head : Type 0 where
   h_name : List ℕ → Head
   h_constant : Constant → Head
   h_turn : Turn → Head
   h_open : Head
-  h_other : Head
 
-abbrev pub head_of_word : Word → Head
-head_of_word words.Atoms = h_other
-head_of_word words.Rel = h_other
-head_of_word words.Var = h_other
-head_of_word words.Horizon = h_other
-head_of_word words.Formula = h_other
-head_of_word (words.Prefix p) = h_other
-head_of_word (words.Infix i) = h_other
-head_of_word words.All = h_other
-head_of_word words.Some = h_other
-head_of_word words.No = h_other
-head_of_word words.In = h_other
-head_of_word (words.Constant c) = h_constant c
+abbrev pub head_of_word : Word → Option Head
+head_of_word words.Atoms = None
+head_of_word words.Rel = None
+head_of_word words.Var = None
+head_of_word words.Horizon = None
+head_of_word words.Formula = None
+head_of_word (words.Prefix p) = None
+head_of_word (words.Infix i) = None
+head_of_word words.All = None
+head_of_word words.Some = None
+head_of_word words.No = None
+head_of_word words.In = None
+head_of_word (words.Constant c) = Some (h_constant c)
 
-abbrev pub head_of_sign : Sign → Head
-head_of_sign signs.Semicolon = h_other
-head_of_sign signs.Colon = h_other
-head_of_sign signs.OpenBrace = h_other
-head_of_sign signs.CloseBrace = h_other
-head_of_sign signs.OpenParen = h_other
-head_of_sign signs.CloseParen = h_other
-head_of_sign signs.OpenBracket = h_open
-head_of_sign signs.CloseBracket = h_other
-head_of_sign signs.Bar = h_other
-head_of_sign signs.Equal = h_other
-head_of_sign signs.Prime = h_other
-head_of_sign (signs.Turn t) = h_turn t
-head_of_sign (signs.Operator o) = h_other
+abbrev pub head_of_sign : Sign → Option Head
+head_of_sign signs.Semicolon = None
+head_of_sign signs.Colon = None
+head_of_sign signs.OpenBrace = None
+head_of_sign signs.CloseBrace = None
+head_of_sign signs.OpenParen = None
+head_of_sign signs.CloseParen = None
+head_of_sign signs.OpenBracket = Some h_open
+head_of_sign signs.CloseBracket = None
+head_of_sign signs.Bar = None
+head_of_sign signs.Equal = None
+head_of_sign signs.Prime = None
+head_of_sign (signs.Turn t) = Some (h_turn t)
+head_of_sign (signs.Operator o) = None
 
-abbrev pub head_in : Tok → Head
-head_in (name s) = h_name (take 12 s)
+abbrev pub head_in : Tok → Option Head
+head_in (name s) = Some (h_name (take 12 s))
 head_in (word w) = head_of_word w
-head_in (number s) = h_other
+head_in (number s) = None
 head_in (sign s) = head_of_sign s
-head_in end = h_other
+head_in end = None
 
-abbrev pub head_at : Item → Head
-head_at (at t p) = head_in t
-head_at (flaw f) = h_other
-
-unfoldable pub head_of : Item → Head
-head_of i = head_at i
+unfoldable pub head_of : Item → Option Head
+head_of i = option_and_then head_in (token_of i)
 
 -- what a formula begins with; all else begins an expression
 abbrev pub start_of_word : Word → Start
@@ -103,12 +99,8 @@ start_in (number s) = start.Expression
 start_in (sign s) = start_of_sign s
 start_in end = start.Expression
 
-abbrev pub start_at : Item → Start
-start_at (at t p) = start_in t
-start_at (flaw f) = start.Expression
-
 unfoldable pub start_of : Item → Start
-start_of i = start_at i
+start_of i = option_map_or start_in (token_of i) start.Expression
 
 -- the word between two formulas
 abbrev pub infix_of_word : Word → Option Infix
@@ -132,12 +124,8 @@ infix_in (number s) = None
 infix_in (sign s) = None
 infix_in end = None
 
-abbrev pub infix_at : Item → Option Infix
-infix_at (at t p) = infix_in t
-infix_at (flaw f) = None
-
 unfoldable pub infix_of : Item → Option Infix
-infix_of i = infix_at i
+infix_of i = option_and_then infix_in (token_of i)
 
 -- the word or sign between two expressions that makes a formula
 abbrev pub comparison_of_word : Word → Option Comparison
@@ -176,12 +164,8 @@ comparison_in (number s) = None
 comparison_in (sign s) = comparison_of_sign s
 comparison_in end = None
 
-abbrev pub comparison_at : Item → Option Comparison
-comparison_at (at t p) = comparison_in t
-comparison_at (flaw f) = None
-
 unfoldable pub comparison_of : Item → Option Comparison
-comparison_of i = comparison_at i
+comparison_of i = option_and_then comparison_in (token_of i)
 
 -- the sign between two expressions that makes an expression
 abbrev pub operator_of_sign : Sign → Option Operator
@@ -206,9 +190,5 @@ operator_in (number s) = None
 operator_in (sign s) = operator_of_sign s
 operator_in end = None
 
-abbrev pub operator_at : Item → Option Operator
-operator_at (at t p) = operator_in t
-operator_at (flaw f) = None
-
 unfoldable pub operator_of : Item → Option Operator
-operator_of i = operator_at i
+operator_of i = option_and_then operator_in (token_of i)

@@ -8,7 +8,7 @@ ghost use Rattle.formulas.specs.Expressions.{primary as primary_of, primed, begu
 ghost use Rattle.formulas.specs.Parsers.{answer, from};
 
 use super::parser::Parser;
-use super::sketch::{Bracket, Meant, close, open};
+use super::sketch::{Bracket, close, open};
 use super::start::{Head, head_of, operator_of};
 use super::wish::{Wish, ask};
 use faults::Fault;
@@ -17,19 +17,19 @@ use problem::{Kind, MOST_PARTS, Node, Turn};
 use stack::Stack;
 use tokens::Mark;
 
-impl<'a> Parser<'a> {
+impl Parser<'_> {
     // Reads an expression of the arity that is wished for.
     #[cycle(begin_bracketed_expression_primary_turned)]
     pub fn expression(
         &mut self,
         brackets: &mut Stack<'_, Bracket>,
         levels: usize,
-        wish: Wish,
+        wish: Option<Wish>,
     ) -> Result<usize, Fault>
         ensures { answer result self.new brackets.new ≡ from self.old brackets.old (expression_of levels wish) }
     {
         let place = self.tokens.place();
-        let part = self.primary(brackets, levels, Wish::Any, wish)?;
+        let part = self.primary(brackets, levels, None, wish)?;
         self.primes(place, wish, part)
     }
 
@@ -42,12 +42,12 @@ impl<'a> Parser<'a> {
     ) -> Result<usize, Fault>
         ensures { answer result self.new brackets.new ≡ from self.old brackets.old (after_name (spelling name) place) }
     {
-        let part = self.sketch.named(name, place, Wish::Any, Wish::Any)?;
-        self.primes(place, Wish::Any, part)
+        let part = self.sketch.named(name, place, None, None)?;
+        self.primes(place, None, part)
     }
 
     // Reads the ' signs after an expression whose first token is at a place.
-    fn primes(&mut self, place: usize, wish: Wish, part: usize) -> Result<usize, Fault>
+    fn primes(&mut self, place: usize, wish: Option<Wish>, part: usize) -> Result<usize, Fault>
         ensures { (o : Open) → told result (cursor self.new.tokens) (body self.new.sketch) o ≡ primes_of most_parts place wish part (cursor self.old.tokens) (body self.old.sketch) o }
     {
         let mut whole = part;
@@ -66,8 +66,8 @@ impl<'a> Parser<'a> {
         &mut self,
         brackets: &mut Stack<'_, Bracket>,
         levels: usize,
-        under: Wish,
-        wish: Wish,
+        under: Option<Wish>,
+        wish: Option<Wish>,
     ) -> Result<usize, Fault>
         ensures { answer result self.new brackets.new ≡ from self.old brackets.old (primary_of levels under wish) }
     {
@@ -83,32 +83,27 @@ impl<'a> Parser<'a> {
         &mut self,
         brackets: &mut Stack<'_, Bracket>,
         levels: usize,
-        under: Wish,
-        wish: Wish,
+        under: Option<Wish>,
+        wish: Option<Wish>,
     ) -> Result<usize, Fault>
         ensures { answer result self.new brackets.new ≡ from self.old brackets.old (begun (primary_of levels) under wish) }
     {
         let place = self.tokens.place();
-        match head_of(&self.tokens) {
+        let Some(head) = head_of(&self.tokens) else {
+            return Err(self.tokens.refuse());
+        };
+        self.tokens.advance();
+        match head {
             Head::Name(name) => {
-                self.tokens.advance();
                 let wish = self.at_end(wish);
                 self.sketch.named(name, place, under, wish)
             }
             Head::Constant(constant) => {
-                self.tokens.advance();
                 let wish = self.at_end(wish);
                 self.sketch.constant(constant, place, under, wish)
             }
-            Head::Turn(turn) => {
-                self.tokens.advance();
-                self.turned(brackets, levels, turn, place, wish)
-            }
-            Head::Open => {
-                self.tokens.advance();
-                self.bracketed(brackets, levels, place, under, wish)
-            }
-            Head::Other => Err(self.tokens.refuse()),
+            Head::Turn(turn) => self.turned(brackets, levels, turn, place, wish),
+            Head::Open => self.bracketed(brackets, levels, place, under, wish),
         }
     }
 
@@ -120,12 +115,12 @@ impl<'a> Parser<'a> {
         levels: usize,
         turn: Turn,
         place: usize,
-        wish: Wish,
+        wish: Option<Wish>,
     ) -> Result<usize, Fault>
         ensures { answer result self.new brackets.new ≡ from self.old brackets.old (turned_of (primary_of levels) turn place wish) }
     {
         self.sketch.count(place)?;
-        let under = Wish::Exactly { arity: 2, place };
+        let under = Some(Wish { arity: 2, place });
         let operand = self.primary(brackets, levels, under, wish)?;
         self.sketch
             .put(Kind::Expression, Node::Turned(turn, operand), place)
@@ -138,20 +133,20 @@ impl<'a> Parser<'a> {
         brackets: &mut Stack<'_, Bracket>,
         levels: usize,
         place: usize,
-        under: Wish,
-        wish: Wish,
+        under: Option<Wish>,
+        wish: Option<Wish>,
     ) -> Result<usize, Fault>
         ensures { answer result self.new brackets.new ≡ from self.old brackets.old (bracketed (expression_of levels) place under wish) }
     {
         open(brackets, place)?;
-        let left = self.expression(brackets, levels, Wish::Any)?;
+        let left = self.expression(brackets, levels, None)?;
         let Some(operator) = operator_of(&self.tokens) else {
             return Err(self.tokens.refuse());
         };
         let at = self.tokens.place();
         self.tokens.advance();
         self.sketch.count(at)?;
-        let right = self.expression(brackets, levels, Wish::Any)?;
+        let right = self.expression(brackets, levels, None)?;
         self.combined(brackets, Node::Combined(operator, left, right), under, wish)
     }
 
@@ -160,8 +155,8 @@ impl<'a> Parser<'a> {
         &mut self,
         brackets: &mut Stack<'_, Bracket>,
         node: Node,
-        under: Wish,
-        wish: Wish,
+        under: Option<Wish>,
+        wish: Option<Wish>,
     ) -> Result<usize, Fault>
         ensures { answer result self.new brackets.new ≡ from self.old brackets.old (combined_of node under wish) }
     {
@@ -177,17 +172,17 @@ impl<'a> Parser<'a> {
     }
 
     // What is asked of a whole expression after one of its tokens: nothing yet where a ' sign goes on with it.
-    fn at_end(&self, wish: Wish) -> Wish
+    fn at_end(&self, wish: Option<Wish>) -> Option<Wish>
         ensures { result ≡ at_end wish (cursor self.now.tokens) }
     {
         if self.tokens.is(Mark::Prime) {
-            return Wish::Any;
+            return None;
         }
         wish
     }
 
     // Reads one ' sign after an expression; the arity is judged before the part is counted.
-    fn prime(&mut self, place: usize, wish: Wish, part: usize) -> Result<usize, Fault>
+    fn prime(&mut self, place: usize, wish: Option<Wish>, part: usize) -> Result<usize, Fault>
         ensures { (o : Open) → told result (cursor self.new.tokens) (body self.new.sketch) o ≡ prime_of place wish part (cursor self.old.tokens) (body self.old.sketch) o }
     {
         let at = self.tokens.place();

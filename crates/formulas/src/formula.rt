@@ -23,7 +23,7 @@ struct Opening {
     at: usize,
 }
 
-impl<'a> Parser<'a> {
+impl Parser<'_> {
     // Reads a formula, at most so many levels deep.
     #[cycle(all_domain_formula_joined_prefixed_scope_some_some_named_start)]
     pub fn formula(
@@ -137,7 +137,7 @@ impl<'a> Parser<'a> {
     ) -> Result<usize, Fault>
         ensures { answer result self.new brackets.new ≡ from self.old brackets.old (tested_of (expression_of levels) test place) }
     {
-        let part = self.expression(brackets, levels, Wish::Any)?;
+        let part = self.expression(brackets, levels, None)?;
         self.sketch
             .put(Kind::Formula, Node::Tested(test, part), place)
     }
@@ -147,7 +147,7 @@ impl<'a> Parser<'a> {
         ensures { answer result self.new brackets.new ≡ from self.old brackets.old (compared_of (expression_of levels)) }
     {
         let place = self.tokens.place();
-        let left = self.expression(brackets, levels, Wish::Any)?;
+        let left = self.expression(brackets, levels, None)?;
         let Some(comparison) = comparison_of(&self.tokens) else {
             return Err(self.tokens.refuse());
         };
@@ -155,7 +155,7 @@ impl<'a> Parser<'a> {
         self.tokens.advance();
         self.sketch.count(at)?;
         let arity = self.sketch.arity(left);
-        let right = self.expression(brackets, levels, Wish::Exactly { arity, place })?;
+        let right = self.expression(brackets, levels, Some(Wish { arity, place }))?;
         self.sketch.put(
             Kind::Formula,
             Node::Compared(comparison, left, right),
@@ -247,7 +247,7 @@ impl<'a> Parser<'a> {
         self.sketch.bindable(opening.name, opening.at)?;
         self.tokens.expect(Mark::Colon)?;
         let place = self.tokens.place();
-        let domain = self.expression(brackets, levels, Wish::Exactly { arity: 1, place })?;
+        let domain = self.expression(brackets, levels, Some(Wish { arity: 1, place }))?;
         self.tokens.expect(Mark::Bar)?;
         self.scope(brackets, levels, opening, domain)
     }

@@ -4,21 +4,18 @@ ghost use Rattle.formulas.specs.Outcomes.{asked};
 use faults::Fault;
 
 // What arity an expression has to have, and where it is refused if it has another.
-#[derive(Clone, Copy)]
-pub enum Wish {
-    Any,
-    Exactly { arity: usize, place: usize },
+#[derive(Clone, Copy, PartialEq, Eq, Debug)]
+pub struct Wish {
+    pub arity: usize,
+    pub place: usize,
 }
 
 // Refuses an arity that is not wished for.
-pub fn ask(wish: Wish, arity: usize) -> Result<(), Fault>
+pub fn ask(wish: Option<Wish>, arity: usize) -> Result<(), Fault>
     ensures { result ≡ asked wish arity }
 {
     match wish {
-        Wish::Exactly {
-            arity: wanted,
-            place,
-        } if wanted != arity => Err(Fault::ArityMismatch { place }),
+        Some(wish) if wish.arity != arity => Err(Fault::ArityMismatch { place: wish.place }),
         _ => Ok(()),
     }
 }

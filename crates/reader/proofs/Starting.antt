@@ -17,7 +17,7 @@ use Rattle.formulas.specs.Outcomes as formulas
 use Rattle.formulas.specs.Formulas.{formula}
 use Rattle.formulas.proofs.Wholes.{formula_whole}
 use Rattle.declaring.specs.Known.{Framed, known, framed}
-use Rattle.declaring.specs.Outcomes.{told}
+use Rattle.tokens.specs.Outcomes.{told}
 use Rattle.reader.specs.Reading.{nothing_known, unread, no_bracket, formula_only}
 
 pub nothing_is_known : (d : Declarations) → length (atoms_of d) ≡ 0 → length (relations_of d) ≡ 0 → known d ≡ nothing_known

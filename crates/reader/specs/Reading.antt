@@ -12,7 +12,7 @@ use Rattle.tokens.specs.Cursors.{Cursor, cursor_of}
 use Rattle.formulas.specs.Bodies.{Body, Open}
 use Rattle.formulas.specs.Outcomes as formulas
 use Rattle.formulas.specs.Formulas.{formula, levels}
-use Rattle.declaring.specs.Outcomes.{Outcome, ok, fail, then, take}
+use Rattle.tokens.specs.Outcomes.{Outcome, ok, fail, then, take}
 use Rattle.declaring.specs.Sets.{most_text}
 use Rattle.declaring.specs.Known.{Known, Framed}
 use Rattle.declaring.specs.Declaring.{declarations, horizon}
@@ -46,8 +46,8 @@ no_bracket = record { limit = 32; places = [] }
 
 -- a formula without the brackets, of which none is open then
 abbrev pub formula_only : formulas.Outcome ℕ → Outcome Body ℕ
-formula_only (formulas.ok i c b o) = ok i c b
-formula_only (formulas.fail f c) = fail f c
+formula_only (ok i c z) = ok i c z.0
+formula_only (fail f c) = fail f c
 
 -- "formula" F and the end of the text
 unfoldable pub formula_text : Body → Cursor → Outcome Contents (Unit {0})
@@ -82,7 +82,3 @@ abbrev pub Answered : List ℕ → Problem → Problem → Result (Unit {0}) Ref
 Answered text before after (Ok u) = reading text ≡ Ok (contents after)
 Answered text before after (Err (refusal.Fault f)) = (reading text ≡ Err f) × (after ≡ before)
 Answered text before after (Err (refusal.Memory w)) = after ≡ before
-
-abbrev pub refusing : Result (Unit {0}) Fault → Result (Unit {0}) Refusal
-refusing (Ok u) = Ok u
-refusing (Err f) = Err (refusal.Fault f)

@@ -1,5 +1,4 @@
-ghost use Rattle.std.specs.Prelude.{◌≡◌};
-ghost use Rattle.reader.specs.Reading.{Filled, Answered, refusing};
+ghost use Rattle.reader.specs.Reading.{Filled, Answered};
 
 use super::refusal::Refusal;
 use super::space::Space;
@@ -12,10 +11,9 @@ use std::alloc::Global;
 pub fn read(text: &[u8], problem: &mut Problem, heap: Global) -> Result<(), Refusal>
     ensures { Answered text.now problem.old problem.new result }
 {
-    match Space::new(heap) {
-        Ok(space) => refused(read_into(text, space, problem)),
-        Err(wanting) => Err(Refusal::Memory(wanting)),
-    }
+    let space = Space::new(heap)?;
+    read_into(text, space, problem)?;
+    Ok(())
 }
 
 // The same with memory that was asked for already.
@@ -24,14 +22,4 @@ pub fn read_into(text: &[u8], space: Space, problem: &mut Problem) -> Result<(),
 {
     *problem = read_text(text, space)?;
     Ok(())
-}
-
-// A fault as a refusal.
-fn refused(answer: Result<(), Fault>) -> Result<(), Refusal>
-    ensures { result ≡ refusing answer }
-{
-    match answer {
-        Ok(()) => Ok(()),
-        Err(fault) => Err(Refusal::Fault(fault)),
-    }
 }

@@ -6,7 +6,7 @@ mod refusal;
 mod space;
 mod text;
 
+pub use declaring::MOST_TEXT;
 pub use filling::{read, read_into};
 pub use refusal::Refusal;
 pub use space::Space;
-pub use text::MOST_TEXT;

@@ -1,3 +1,6 @@
+ghost use Rattle.std.specs.Prelude.{◌≡◌};
+ghost use Rattle.reader.specs.declared.refusal.Refusal.TheVariants.{Memory as memory, Fault as fault};
+
 use faults::Fault;
 use std::alloc::AllocError;
 
@@ -6,4 +9,20 @@ use std::alloc::AllocError;
 pub enum Refusal {
     Memory(AllocError),
     Fault(Fault),
+}
+
+impl From<AllocError> for Refusal {
+    ghost from_gives = { λ e r. r ≡ memory e };
+
+    fn from(wanting: AllocError) -> Refusal {
+        Refusal::Memory(wanting)
+    }
+}
+
+impl From<Fault> for Refusal {
+    ghost from_gives = { λ f r. r ≡ fault f };
+
+    fn from(fault: Fault) -> Refusal {
+        Refusal::Fault(fault)
+    }
 }

@@ -4,20 +4,17 @@ ghost use Rattle.problem.specs.Sorts.{Whole};
 ghost use Rattle.problem.specs.Drafts.{sorts_of};
 ghost use Rattle.formulas.specs.Bodies.{body};
 ghost use Rattle.formulas.specs.Formulas.{formula, levels};
-ghost use Rattle.declaring.specs.Outcomes.{told};
+ghost use Rattle.tokens.specs.Outcomes.{told};
 ghost use Rattle.declaring.specs.Known.{known, framed};
 ghost use Rattle.reader.specs.Reading.{contents, contents_of, contents_told, value_of, formula_only, no_bracket, formula_text, problem_text, unread, reading};
 
 use super::space::Space;
-use declaring::{read_declarations, read_horizon};
+use declaring::{MOST_TEXT, Reader, read_horizon};
 use faults::Fault;
 use formulas::{Bracket, MOST_BRACKETS, MOST_LEVELS, Parser, Scope, Sketch};
 use problem::{Declarations, Draft, Problem, Room, Signature};
 use stack::Stack;
 use tokens::{Mark, Tokens};
-
-// The most bytes of a text.
-pub const MOST_TEXT: usize = 8192;
 
 // Reads a text into a new problem.
 #[tactic(auto, unfolding(crate::specs::Reading::reading))]
@@ -41,9 +38,12 @@ fn read_problem(
 ) -> Result<Problem, Fault>
     ensures { contents_told result ≡ value_of (problem_text (cursor tokens.entry) (known declared)) }
 {
-    let mut tokens = tokens;
-    let mut declared = declared;
-    read_declarations(&mut tokens, &mut declared)?;
+    let mut reader = Reader { tokens, declared };
+    reader.declarations()?;
+    let Reader {
+        mut tokens,
+        declared,
+    } = reader;
     let signature = read_horizon(&mut tokens, declared)?;
     let sketch = sketch_over(signature, room, scope);
     read_formula(Parser { tokens, sketch })
@@ -60,11 +60,10 @@ fn sketch_over(signature: Signature, room: Room, scope: Scope) -> Sketch
 
 // Reads the formula and the end of the text.
 #[tactic(auto, unfolding(crate::specs::Reading::formula_text))]
-fn read_formula(parser: Parser<'_>) -> Result<Problem, Fault>
+fn read_formula(mut parser: Parser<'_>) -> Result<Problem, Fault>
     requires { (body parser.sketch).scope ≡ [] }
     ensures { contents_told result ≡ value_of (formula_text (body parser.entry.sketch) (cursor parser.entry.tokens)) }
 {
-    let mut parser = parser;
     parser.tokens.expect(Mark::Formula)?;
     whole_formula(&mut parser)?;
     parser.tokens.expect(Mark::End)?;

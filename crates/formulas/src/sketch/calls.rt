@@ -1,37 +1,22 @@
 ghost use Rattle.std.specs.Prelude.{◌≡◌, ℕ, nat_lt};
 ghost use Rattle.names.specs.Names.{spelling};
-ghost use Rattle.problem.specs.Sorts.{constant_arity, most_parts, most_variables};
+ghost use Rattle.problem.specs.Sorts.{most_variables};
 ghost use Rattle.formulas.specs.Bodies.{body, begun};
-ghost use Rattle.formulas.specs.Outcomes.{changes, counted, putting, misfitting, arity_in, resolved, leafed, naming, meant_constant, known, bindable, bindable_by, bound as binding_of, unbound};
+ghost use Rattle.tokens.specs.Outcomes.{changes};
+ghost use Rattle.formulas.specs.Outcomes.{counted, putting, misfitting, arity_in, resolved, leafed, naming, meant_constant, known, bindable, bindable_by, bound as binding_of, unbound};
 
 use super::super::wish::{Wish, ask};
 use super::{Scope, Sketch, Variable};
 use faults::Fault;
 use names::{Name, Named, lookup};
-use problem::{Constant, Draft, Kind, Misfit, Node};
+use problem::{Constant, Draft, Kind, MOST_PARTS, MOST_VARIABLES, Misfit, Node};
 use std::alloc::{AllocError, Global};
-
-// The most parts of a formula.
-const MOST_PARTS: usize = 256;
-
-// The most variables that are bound at once.
-const MOST_VARIABLES: usize = 4;
 
 impl Named for Variable {
     ghost named = { λ v. spelling v.name };
 
     fn name(&self) -> &[u8] {
         self.name.as_bytes()
-    }
-}
-
-// The arity of a constant.
-fn arity_of(constant: Constant) -> usize
-    ensures { result ≡ constant_arity constant }
-{
-    match constant {
-        Constant::Univ | Constant::None => 1,
-        Constant::Iden => 2,
     }
 }
 
@@ -81,10 +66,11 @@ impl Sketch {
     }
 
     // The token at a place stands for a part, if there may be one more.
+    #[tactic(auto, using(std::proofs::lemmas::Bool::Decides::nat_tests), unfolding(crate::specs::Bodies::body, crate::specs::Outcomes::counted))]
     pub fn count(&mut self, place: usize) -> Result<(), Fault>
         ensures { changes result (body self.new) ≡ counted place (body self.old) }
     {
-        if !may_count(self.parts) {
+        if self.parts >= MOST_PARTS {
             return Err(Fault::OverLimit { place });
         }
         self.parts += 1;
@@ -103,14 +89,8 @@ impl Sketch {
     }
 
     // The arity of a node.
+    #[tactic(auto, unfolding(crate::specs::Bodies::body, crate::specs::Outcomes::arity_in))]
     pub fn arity(&self, node: usize) -> usize
-        ensures { result ≡ arity_in node (body self.now) }
-    {
-        self.arity_at(node)
-    }
-
-    // The same, of the draft.
-    fn arity_at(&self, node: usize) -> usize
         ensures { result ≡ arity_in node (body self.now) }
     {
         self.draft.arity(node)
@@ -141,8 +121,8 @@ impl Sketch {
         &mut self,
         meant: Meant,
         place: usize,
-        under: Wish,
-        wish: Wish,
+        under: Option<Wish>,
+        wish: Option<Wish>,
     ) -> Result<usize, Fault>
         ensures { changes result (body self.new) ≡ leafed meant place under wish (body self.old) }
     {
@@ -157,8 +137,8 @@ impl Sketch {
         &mut self,
         name: Name,
         place: usize,
-        under: Wish,
-        wish: Wish,
+        under: Option<Wish>,
+        wish: Option<Wish>,
     ) -> Result<usize, Fault>
         ensures { changes result (body self.new) ≡ naming (spelling name) place under wish (body self.old) }
     {
@@ -171,14 +151,14 @@ impl Sketch {
         &mut self,
         constant: Constant,
         place: usize,
-        under: Wish,
-        wish: Wish,
+        under: Option<Wish>,
+        wish: Option<Wish>,
     ) -> Result<usize, Fault>
         ensures { changes result (body self.new) ≡ leafed (meant_constant constant) place under wish (body self.old) }
     {
         let meant = Meant {
             node: Node::Constant(constant),
-            arity: arity_of(constant),
+            arity: constant.arity(),
         };
         self.leaf(meant, place, under, wish)
     }
@@ -217,25 +197,12 @@ impl Sketch {
     }
 
     // The latest variable goes out of scope.
+    #[tactic(auto, using(crate::proofs::Steps::unbinding))]
     pub fn unbind(&mut self)
-        ensures { body self.new ≡ unbound (body self.old) }
-    {
-        self.drop_latest();
-    }
-
-    // Lets it go.
-    fn drop_latest(&mut self)
         ensures { body self.new ≡ unbound (body self.old) }
     {
         let _ = self.scope.pop();
     }
-}
-
-// Whether there may be one part more.
-fn may_count(parts: usize) -> bool
-    ensures { result ≡ nat_lt parts most_parts }
-{
-    parts < MOST_PARTS
 }
 
 // Whether there may be one variable more.

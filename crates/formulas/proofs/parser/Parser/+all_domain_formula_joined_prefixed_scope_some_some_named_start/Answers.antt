@@ -1,6 +1,6 @@
 -- The readers of formulas unfold level by level.
 use Rattle.std.proofs.Common.{◌<◌, ◌∙◌, arith}
-use Rattle.formulas.specs.Outcomes.{fail}
+use Rattle.tokens.specs.Outcomes.{fail}
 use Rattle.formulas.proofs.Levels.{formula_none, formula_more}
 use Rattle.formulas.proofs.parser.Parser.+all_domain_formula_joined_prefixed_scope_some_some_named_start.Goals as goal
 

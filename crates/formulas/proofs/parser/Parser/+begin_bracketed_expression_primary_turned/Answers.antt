@@ -1,6 +1,6 @@
 -- The readers of expressions unfold level by level.
 use Rattle.std.proofs.Common.{◌<◌, ◌∙◌, arith}
-use Rattle.formulas.specs.Outcomes.{fail}
+use Rattle.tokens.specs.Outcomes.{fail}
 use Rattle.formulas.proofs.Levels.{primary_none, primary_more}
 use Rattle.formulas.proofs.parser.Parser.+begin_bracketed_expression_primary_turned.Goals as goal
 
