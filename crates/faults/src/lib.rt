@@ -19,7 +19,7 @@ pub enum Layer {
 }
 
 // Why something is refused. A place is the index of a byte of what was read; in a contradiction it is a place of the problem.
-#[derive(Clone, Copy)]
+#[derive(Clone, Copy, PartialEq, Eq, Debug)]
 pub enum Fault {
     TextTooLong,
     NoToken { place: usize },

@@ -1,4 +1,5 @@
 use super::Fault;
+use std::error::Error;
 use std::fmt;
 
 // What is wrong, in a line of words.
@@ -39,3 +40,5 @@ impl fmt::Display for Fault {
         f.write_str(words(self))
     }
 }
+
+impl Error for Fault {}
