@@ -1,8 +1,12 @@
 -- One trace for each behaviour.
-use Rattle.std.proofs.Common.{◌≡◌, ℕ, ◌<◌, false, [], get_or, sym, ap, ◌∙◌, inl, ⊎_elim, arith}
+use Rattle.std.proofs.Common.{◌≡◌, ℕ, ◌<◌, Bool, true, false, ◌&&◌, nat_eq, [], get_or, refl, sym, ap, ◌∙◌, inl, ⊎_elim, arith, Decides}
 use denote.Struct.Record.{values_one}
+use lib.Pointwise.{pointwise}
+use Rattle.std.specs.Bool.{beq}
+use Rattle.std.specs.Cmp.{booleans_Decides}
 use Rattle.std.proofs.lemmas.List.{ext_get_or}
-use Rattle.std.proofs.lemmas.Bool.{cases_lt}
+use Rattle.std.proofs.lemmas.Slice.Eq.{slice_eq-Decides}
+use Rattle.std.proofs.lemmas.Bool.{cases_lt, and_parts, and_from, eqb-true, eq-eqb}
 use Rattle.lasso.specs.declared.shape.Shape.{Shape}
 use Rattle.lasso.specs.contracts.shape.Shape as shape
 use Rattle.lasso.proofs.One.{one_lasso}
@@ -40,3 +44,35 @@ one_trace t u b =
 
 pub same_behaviour : (t u : Trace) → t ≡ u → SameBehaviour t u
 same_behaviour t u e = record { places = ap (λ x. x.places) e; same = λ i p. ap (λ x. behaviour x i p) e }
+
+-- the derived equality, which goes by all fields, says whether two traces are one
+module _ (t u : Trace) where
+  abbrev pub fields_eq : Bool
+  fields_eq = nat_eq t.places u.places && ((nat_eq t.shape.states u.shape.states && nat_eq t.shape.loop_start u.shape.loop_start) && pointwise (pointwise beq) t.held u.held)
+
+  held_Decides : Decides (pointwise (pointwise beq) t.held u.held) (t.held ≡ u.held)
+  held_Decides = slice_eq-Decides (λ a b. slice_eq-Decides booleans_Decides a b _ refl) t.held u.held _ refl
+
+  one_by_fields : fields_eq ≡ true → t ≡ u
+  one_by_fields e =
+      let a = and_parts _ _ e in
+      let b = and_parts _ _ a.1 in
+      let c = and_parts _ _ b.0 in
+      same_fields t u (eqb-true t.places u.places a.0) (same_shape t.shape u.shape (eqb-true t.shape.states u.shape.states c.0) (eqb-true t.shape.loop_start u.shape.loop_start c.1)) (held_Decides.0 b.1)
+
+  fields_by_one : t ≡ u → fields_eq ≡ true
+  fields_by_one e =
+      and_from _ _ (eq-eqb t.places u.places (ap (λ x. x.places) e))
+      (and_from _ _
+      (and_from _ _ (eq-eqb t.shape.states u.shape.states (ap (λ x. x.shape.states) e)) (eq-eqb t.shape.loop_start u.shape.loop_start (ap (λ x. x.shape.loop_start) e)))
+      (held_Decides.1 (ap (λ x. x.held) e)))
+
+  -- `grind` takes a lemma at the first term of its conclusion that shows its variables: the equation that always holds is there for that
+  abbrev Said : Type 0 → Type 0
+  Said P = (pointwise (pointwise beq) t.held u.held ≡ pointwise (pointwise beq) t.held u.held) × Decides fields_eq P
+
+  pub one_value : Said (t ≡ u)
+  one_value = (refl, (one_by_fields, fields_by_one))
+
+  pub one_behaviour : Said (SameBehaviour t u)
+  one_behaviour = (refl, (λ h. same_behaviour t u (one_by_fields h), λ b. fields_by_one (same_trace t u (one_trace t u b))))

@@ -24,17 +24,9 @@ BlankFrom s held = (j : ℕ) → s ≤ j → j < most_states → slice_index_or 
 abbrev pub Empty : List Bool → ℕ → Type 0
 Empty row from = (p : ℕ) → from ≤ p → slice_index_or row p false ≡ false
 
--- a state holds nothing outside n places and k states
-abbrev pub StateFits : ℕ → ℕ → List (List Bool) → ℕ → Type 0
-StateFits n k held s = (p : ℕ) → (k ≤ s) ⊎ (n ≤ p) → holds held s p ≡ false
-
 -- nothing is held outside n places and k states
 abbrev pub NoneOutside : ℕ → ℕ → List (List Bool) → Type 0
 NoneOutside n k held = (s p : ℕ) → (k ≤ s) ⊎ (n ≤ p) → holds held s p ≡ false
-
--- two rows hold the same places
-abbrev pub SameRow : List Bool → List Bool → Type 0
-SameRow a b = (p : ℕ) → slice_index_or a p false ≡ slice_index_or b p false
 
 -- at two instants of the endless path the same places are held
 pub record Alike (k l : ℕ) (held : List (List Bool)) (i j : ℕ) : Type 0 where

@@ -1,83 +1,87 @@
-ghost use Rattle.std.specs.Prelude.{◌≡◌, ℕ, ◌+◌, ◌-◌, ◌<◌, ◌≤◌, length, Decides};
-ghost use Rattle.lasso.specs.Lassos.{Repeats, Fewest};
-ghost use Rattle.trace.specs.Tables.{holds, SameRow, Alike, RoundSeen, NoLassoOf};
+ghost use Rattle.std.specs.Prelude.{◌≡◌, ℕ, ◌+◌, ◌-◌, ◌<◌, ◌≤◌, [], length, Decides, slice_index_or};
+ghost use Rattle.lasso.specs.Lassos.{state_at, Repeats, Fewest};
+ghost use Rattle.trace.specs.Tables.{most_places, most_states, holds, Alike, RoundSeen, NoLassoOf};
 
 use super::table::Table;
 use lasso::{Instant, Shape};
 
-// Whether two rows hold the same places.
-pub(crate) fn same_row(a: &[bool], b: &[bool]) -> bool
-    requires { length a.now ≡ length b.now }
-    ensures { Decides result (SameRow a.now b.now) }
-{
-    a == b
+// A lasso of which it is not known yet whether fewer states would do.
+#[derive(Drop)]
+pub(crate) struct Lasso<'a> {
+    pub(crate) shape: Shape,
+    pub(crate) held: &'a Table,
+    ghost few: { shape.states ≤ most_states },
 }
 
-// Whether the same places are held at two instants of the endless path.
-fn alike(shape: Shape, held: &Table, a: Instant, b: Instant) -> bool
-    requires { shape.states ≤ 8 }
-    ensures { Decides result (Alike shape.states shape.loop_start held.now a.0 b.0) }
-{
-    let (x, y) = (shape.fold(a), shape.fold(b));
-    same_row(&held[x.0], &held[y.0])
-}
-
-// Whether, for as many instants as there are states, what is held at an instant is held again `period` instants later.
-fn round_seen(shape: Shape, held: &Table, from: usize, period: usize) -> bool
-    requires states { shape.states ≤ 8 }
-    requires from { from < 8 }
-    requires period { period ≤ 8 }
-    ensures { Decides result (RoundSeen shape.states shape.loop_start held.now from period) }
-{
-    for i in from..from + shape.states() {
-        if !alike(shape, held, Instant(i + period), Instant(i)) {
-            return false;
-        }
+impl<'a> Lasso<'a> {
+    // The row of the state at an instant.
+    fn row(&self, instant: Instant) -> &[bool]
+        ensures value { result.now ≡ slice_index_or self.now.held.now (state_at self.now.shape.states self.now.shape.loop_start instant.0) [] }
+        ensures wide { length result.now ≡ most_places }
+    {
+        &self.held[self.shape.fold(instant).0]
     }
-    true
-}
 
-// Whether, from the instant `from` on for ever, what is held is held again `period` instants later.
-fn repeats(shape: Shape, held: &Table, from: usize, period: usize) -> bool
-    requires states { shape.states ≤ 8 }
-    requires from { from < 8 }
-    requires period { period ≤ 8 }
-    ensures { Decides result (Repeats shape.states shape.loop_start (holds held.now) from period) }
-{
-    round_seen(shape, held, from, period)
-}
-
-// Whether no lasso of `states` states has the same endless path.
-fn no_lasso_of(states: usize, shape: Shape, held: &Table) -> bool
-    requires states { states < 8 }
-    requires shape { shape.states ≤ 8 }
-    ensures { Decides result (NoLassoOf states shape.states shape.loop_start held.now) }
-{
-    for start in 0..states {
-        if repeats(shape, held, start, states - start) {
-            return false;
-        }
+    // Whether the same places are held at two instants of the endless path.
+    #[tactic(auto, using(crate::proofs::Alike::rows_alike))]
+    fn alike(&self, a: Instant, b: Instant) -> bool
+        ensures { Decides result (Alike self.now.shape.states self.now.shape.loop_start self.now.held.now a.0 b.0) }
+    {
+        self.row(a) == self.row(b)
     }
-    true
-}
 
-// Whether no lasso of fewer states has the same endless path, each number of states tried.
-fn none_shorter(shape: Shape, held: &Table) -> bool
-    requires { shape.states ≤ 8 }
-    ensures { Decides result ((m : ℕ) → m < shape.states → NoLassoOf m shape.states shape.loop_start held.now) }
-{
-    for states in 0..shape.states() {
-        if !no_lasso_of(states, shape, held) {
-            return false;
+    // Whether, for as many instants as there are states, what is held at an instant is held again `period` instants later.
+    fn round_seen(&self, from: usize, period: usize) -> bool
+        requires from { from < 8 }
+        requires period { period ≤ 8 }
+        ensures { Decides result (RoundSeen self.now.shape.states self.now.shape.loop_start self.now.held.now from period) }
+    {
+        for i in from..from + self.shape.states() {
+            if !self.alike(Instant(i + period), Instant(i)) {
+                return false;
+            }
         }
+        true
     }
-    true
-}
 
-// Whether no lasso with fewer states has the same endless path.
-pub(crate) fn is_fewest(shape: Shape, held: &Table) -> bool
-    requires { shape.states ≤ 8 }
-    ensures { Decides result (Fewest shape.states shape.loop_start (holds held.now)) }
-{
-    none_shorter(shape, held)
+    // Whether, from the instant `from` on for ever, what is held is held again `period` instants later.
+    fn repeats(&self, from: usize, period: usize) -> bool
+        requires from { from < 8 }
+        requires period { period ≤ 8 }
+        ensures { Decides result (Repeats self.now.shape.states self.now.shape.loop_start (holds self.now.held.now) from period) }
+    {
+        self.round_seen(from, period)
+    }
+
+    // Whether no lasso of `states` states has the same endless path.
+    fn no_lasso_of(&self, states: usize) -> bool
+        requires { states < 8 }
+        ensures { Decides result (NoLassoOf states self.now.shape.states self.now.shape.loop_start self.now.held.now) }
+    {
+        for start in 0..states {
+            if self.repeats(start, states - start) {
+                return false;
+            }
+        }
+        true
+    }
+
+    // Whether no lasso of fewer states has the same endless path, each number of states tried.
+    fn none_shorter(&self) -> bool
+        ensures { Decides result ((m : ℕ) → m < self.now.shape.states → NoLassoOf m self.now.shape.states self.now.shape.loop_start self.now.held.now) }
+    {
+        for states in 0..self.shape.states() {
+            if !self.no_lasso_of(states) {
+                return false;
+            }
+        }
+        true
+    }
+
+    // Whether no lasso with fewer states has the same endless path.
+    pub(crate) fn is_fewest(&self) -> bool
+        ensures { Decides result (Fewest self.now.shape.states self.now.shape.loop_start (holds self.now.held.now)) }
+    {
+        self.none_shorter()
+    }
 }

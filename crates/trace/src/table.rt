@@ -1,5 +1,5 @@
-ghost use Rattle.std.specs.Prelude.{◌≡◌, ℕ, ◌<◌, true, false, [], length, Decides, slice_index_or};
-ghost use Rattle.trace.specs.Tables.{holds, Wide, BlankFrom, Empty, StateFits, NoneOutside};
+ghost use Rattle.std.specs.Prelude.{◌≡◌, ℕ, ◌<◌, ◌≤◌, true, false, [], length, Decides, slice_index_or};
+ghost use Rattle.trace.specs.Tables.{most_places, holds, Wide, BlankFrom, Empty, NoneOutside};
 
 // The most places of a trace.
 pub const MOST_PLACES: usize = 768;
@@ -31,38 +31,22 @@ fn filled(value: bool) -> Table
 }
 
 // Whether a row holds no place from `from` on.
-fn empty_from(row: &[bool], from: usize) -> bool
-    ensures { Decides result (Empty row.now from) }
+fn empty_from(row: &[bool; MOST_PLACES], from: usize) -> bool
+    ensures value { Decides result (Empty row.now from) }
+    ensures wide { length row.now ≡ most_places }
 {
-    for p in from..row.len() {
-        if row[p] {
-            return false;
-        }
-    }
-    true
-}
-
-// Whether a state holds nothing outside the counts.
-fn state_fits(held: &Table, state: usize, places: usize, states: usize) -> bool
-    requires { state < 8 }
-    ensures value { Decides result (StateFits places states held.now state) }
-    ensures wide { length (slice_index_or held.now state []) ≡ 768 }
-{
-    if state < states {
-        return empty_from(&held[state], places);
-    }
-    empty_from(&held[state], 0)
+    !row.iter().skip(from).any(|held| *held)
 }
 
 // Whether nothing is held outside the counts.
+#[tactic(auto, using(std::proofs::lemmas::List::get_or_past))]
 pub(crate) fn none_outside(held: &Table, places: usize, states: usize) -> bool
-    ensures value { Decides result (NoneOutside places states held.now) }
+    ensures none { result ≡ true → NoneOutside places states held.now }
+    ensures all { NoneOutside places states held.now → result ≡ true }
     ensures wide { result ≡ true → Wide held.now }
 {
-    for s in 0..MOST_STATES {
-        if !state_fits(held, s, places, states) {
-            return false;
-        }
-    }
-    true
+    held.iter().enumerate().all(|(state, row)| empty_from(
+        row,
+        if state < states { places } else { 0 },
+    ))
 }

@@ -8,7 +8,7 @@ use lasso::Shape;
 mod calls;
 
 // A lasso without open values that has the fewest states among all lassos of its behaviour.
-#[derive(Drop)]
+#[derive(PartialEq, Eq, Drop)]
 pub struct Trace {
     places: usize,
     shape: Shape,

@@ -1,8 +1,8 @@
 ghost use Rattle.std.specs.Prelude.{◌≡◌, ℕ, ◌<◌, ◌≤◌, true, false, ◌⊎◌, Decides, MatchOption};
-ghost use Rattle.trace.specs.Tables.{holds, Wide};
-ghost use Rattle.trace.specs.Traces.{IsTrace, Fresh, held_in, behaviour, SameFields, SameBehaviour};
+ghost use Rattle.trace.specs.Tables.{Wide};
+ghost use Rattle.trace.specs.Traces.{IsTrace, Fresh, held_in, behaviour, SameBehaviour};
 
-use super::super::fewest::{is_fewest, same_row};
+use super::super::fewest::Lasso;
 use super::super::table::{MOST_PLACES, MOST_STATES, Table, blank, none_outside};
 use super::Trace;
 use lasso::{Instant, Shape, State};
@@ -85,11 +85,12 @@ impl Trace {
     }
 
     // Whether two traces have the same behaviour: then they are one trace.
+    #[tactic(auto, using(crate::proofs::One::one_value, crate::proofs::One::one_behaviour))]
     pub fn same_behaviour(&self, other: &Trace) -> bool
         ensures exact { Decides result (SameBehaviour self.now other.now) }
         ensures one { Decides result (self.now ≡ other.now) }
     {
-        same_trace(self, other)
+        self == other
     }
 }
 
@@ -101,32 +102,5 @@ fn is_trace(places: usize, shape: Shape, held: &Table) -> bool
     if places > MOST_PLACES || shape.states() > MOST_STATES {
         return false;
     }
-    is_fewest(shape, held) && none_outside(held, places, shape.states())
-}
-
-// Whether two tables hold the same.
-fn same_table(a: &Table, b: &Table) -> bool
-    ensures { Decides result ((s p : ℕ) → holds a.now s p ≡ holds b.now s p) }
-{
-    for s in 0..MOST_STATES {
-        if !same_row(&a[s], &b[s]) {
-            return false;
-        }
-    }
-    true
-}
-
-// Whether two traces have the same counts, and hold the same in each state.
-fn same_fields(a: &Trace, b: &Trace) -> bool
-    ensures { Decides result (SameFields a.now b.now) }
-{
-    a.places == b.places && a.shape == b.shape && same_table(&a.held, &b.held)
-}
-
-// One trace for each behaviour.
-fn same_trace(a: &Trace, b: &Trace) -> bool
-    ensures exact { Decides result (SameBehaviour a.now b.now) }
-    ensures one { Decides result (a.now ≡ b.now) }
-{
-    same_fields(a, b)
+    Lasso { shape, held }.is_fewest() && none_outside(held, places, shape.states())
 }

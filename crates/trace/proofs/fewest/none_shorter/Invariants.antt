@@ -1,6 +1,0 @@
-use Rattle.std.proofs.Common.{ℕ, ◌<◌}
-use Rattle.trace.specs.Tables.{NoLassoOf}
-use Rattle.trace.proofs.fewest.none_shorter.Given as goal
-
-abbrev pub invariant-loop-states : goal.invariant-loop-states
-invariant-loop-states l = (m : ℕ) → m < l.states → NoLassoOf m l.shape.states l.shape.loop_start l.held
