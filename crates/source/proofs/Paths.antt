@@ -1,14 +1,11 @@
 -- The paths that the sources mean.
-use Rattle.std.proofs.Common.{◌≡◌, ℕ, zero, suc, ◌+◌, ◌-◌, ◌≤◌, cond, ◌&&◌, ltb, sym, refl, ap, ◌∙◌, ⊎_elim, arith}
+use Rattle.std.proofs.Common.{◌≡◌, ℕ, zero, suc, ◌+◌, ◌-◌, ◌<◌, ◌≤◌, cond, ◌&&◌, ltb, sym, refl, ap, ◌∙◌, ⊎_elim, arith}
 use Rattle.std.proofs.lemmas.Bool.{cases_lt, cond-true, cond-false, and_from, and_left, and_right, lt-ltb, le-ltb}
 use Rattle.lasso.specs.declared.value.Value.{Value}
 use Rattle.lasso.specs.declared.value.Value.TheVariants.{Open}
 use Rattle.lasso.specs.Lassos.{state_at}
 use Rattle.lasso.proofs.Folds.{state_at_first, state_at_below, state_at_again}
-use Rattle.trace.specs.declared.trace.Trace.{Trace}
-use Rattle.trace.specs.Traces.{behaviour}
 use Rattle.source.specs.Meanings.{Means}
-use Rattle.source.specs.Sources.{told, trace_meaning, all_known, first_meaning, first_known}
 
 -- in a lasso whose last state follows itself, that state comes and stays
 last_stays : (m n : ℕ) → state_at (m + 1) m (m + n) ≡ m
@@ -36,12 +33,9 @@ module _ (n m : ℕ) (v : ℕ → ℕ → Value) where
     outside = λ p i h. cond-false _ _ _ (and_left (ltb p n) (ltb (state_at (m + 1) m i) m) (le-ltb p n h));
   }
 
-pub trace_means : (t : Trace) → Means (trace_meaning t) t.places (all_known t)
-trace_means t = record {
-  count = refl;
-  inside = λ p i h. cond-true _ _ _ (and_from _ _ (lt-ltb p t.places h) (lt-ltb (state_at t.shape.states t.shape.loop_start i) t.shape.states (state_at_below t.shape.states t.shape.loop_start i t.shape.loops)));
-  outside = λ p i h. cond-false _ _ _ (and_left (ltb p t.places) (ltb (state_at t.shape.states t.shape.loop_start i) t.shape.states) (le-ltb p t.places h));
-}
+-- what `grind` needs of states, by names of this crate
+pub state_below : (k l i : ℕ) → l < k → state_at k l i < k
+state_below = state_at_below
 
-pub prefix_means : (t : Trace) (m : ℕ) → Means (first_meaning t m) t.places (first_known t m)
-prefix_means t m = first_means t.places m (λ p s. told (behaviour t s p))
+pub state_first : (k l i : ℕ) → i < k → state_at k l i ≡ i
+state_first = state_at_first

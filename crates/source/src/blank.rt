@@ -23,16 +23,8 @@ impl Blank {
         if places > MOST_PLACES {
             return Err(Fault::OutsideSource);
         }
-        Ok(blank_of(places))
+        Ok(Blank { places })
     }
-}
-
-// The path of the blank source.
-fn blank_of(places: usize) -> Blank
-    requires { places ≤ 768 }
-    ensures { Means (blank_meaning result.places) places nothing_known }
-{
-    Blank { places }
 }
 
 impl Source for Blank {

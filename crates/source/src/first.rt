@@ -4,7 +4,6 @@ ghost use Rattle.source.specs.Meanings.{Means};
 ghost use Rattle.source.specs.Sources.{first_meaning, first_known};
 
 use super::Source;
-use super::of_trace::told;
 use faults::Fault;
 use lasso::{Instant, State, Value};
 use trace::Trace;
@@ -23,8 +22,7 @@ pub struct FirstInstants {
 #[derive(Clone, Copy)]
 pub struct Prefix<'t> {
     trace: &'t Trace,
-    count: usize,
-    ghost few: { count ≤ 16 },
+    first: FirstInstants,
 }
 
 impl FirstInstants {
@@ -39,42 +37,34 @@ impl FirstInstants {
     }
 
     // The source that tells these instants of a trace.
+    #[tactic(auto, using(crate::proofs::Paths::state_first, crate::proofs::Paths::stays_open))]
     pub fn of<'t>(self, trace: &'t Trace) -> Prefix<'t>
-        ensures same { first_meaning result.trace.now result.count ≡ first_meaning trace.now self.count }
-        ensures path { Means (first_meaning result.trace.now result.count) trace.now.places (first_known trace.now self.count) }
+        ensures same { first_meaning result.trace.now result.first.count ≡ first_meaning trace.now self.count }
+        ensures path { Means (first_meaning result.trace.now result.first.count) trace.now.places (first_known trace.now self.count) }
     {
-        prefix_of(trace, self.count)
+        Prefix { trace, first: self }
     }
 }
 
-// The path of the first instants.
-fn prefix_of<'t>(trace: &'t Trace, count: usize) -> Prefix<'t>
-    requires { count ≤ 16 }
-    ensures same { first_meaning result.trace.now result.count ≡ first_meaning trace.now count }
-    ensures path { Means (first_meaning result.trace.now result.count) trace.now.places (first_known trace.now count) }
-{
-    Prefix { trace, count }
-}
-
 impl<'t> Source for Prefix<'t> {
-    ghost meaning = { λ s. first_meaning s.trace.now s.count };
+    ghost meaning = { λ s. first_meaning s.trace.now s.first.count };
 
     fn places(&self) -> usize {
         self.trace.places()
     }
 
     fn states(&self) -> usize {
-        self.count + 1
+        self.first.count + 1
     }
 
     fn loop_start(&self) -> State {
-        State(self.count)
+        State(self.first.count)
     }
 
     fn value(&self, place: usize, state: State) -> Value {
-        if place >= self.trace.places() || state.0 >= self.count {
+        if place >= self.trace.places() || state.0 >= self.first.count {
             return Value::Open;
         }
-        told(self.trace.held_at(place, Instant(state.0)))
+        self.trace.held_at(place, Instant(state.0)).into()
     }
 }
