@@ -11,8 +11,6 @@ use source::Source;
 pub fn told_at<S: Source>(source: &S, place: usize, instant: Instant) -> Value
     ensures { result ≡ told_at (S.Source.meaning source.now) place instant.0 }
 {
-    match Shape::new(source.states(), source.loop_start()) {
-        Some(shape) => source.value(place, shape.fold(instant)),
-        None => unreachable(),
-    }
+    let shape = Shape::new(source.states(), source.loop_start()).unwrap();
+    source.value(place, shape.fold(instant))
 }
