@@ -1,3 +1,4 @@
+use super::list::write_list;
 use super::noun;
 use lasso::State;
 use std::fmt;
@@ -12,17 +13,8 @@ pub struct HeldIn<'a> {
 
 impl fmt::Display for HeldIn<'_> {
     fn fmt<W: fmt::Write>(&self, f: &mut fmt::Formatter<W>) -> fmt::Result {
-        let mut first = true;
-        for place in 0..self.trace.places() {
-            if self.trace.held(place, self.state) {
-                if !first {
-                    f.write_str(",")?;
-                }
-                write!(f, "{place}")?;
-                first = false;
-            }
-        }
-        Ok(())
+        let held = (0..self.trace.places()).filter(|place| self.trace.held(*place, self.state));
+        write_list(f, held)
     }
 }
 
@@ -70,10 +62,5 @@ fn state_in_words<W: fmt::Write>(
 
 // Whether no place is held in a state.
 fn holds_nothing(trace: &Trace, state: State) -> bool {
-    for place in 0..trace.places() {
-        if trace.held(place, state) {
-            return false;
-        }
-    }
-    true
+    !(0..trace.places()).any(|place| trace.held(place, state))
 }

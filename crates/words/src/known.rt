@@ -1,8 +1,32 @@
-use super::values::value_word;
+use super::list::write_list;
 use lasso::{Instant, Value};
 use source::Source;
 use std::fmt;
 use telling::told_at;
+
+// A place and its value, as `3=yes`.
+#[derive(Drop)]
+struct Known {
+    place: usize,
+    value: Value,
+}
+
+impl Known {
+    // What a source knows of a place at an instant.
+    fn of<S: Source>(source: &S, place: usize, instant: Instant) -> Known {
+        Known {
+            place,
+            value: told_at(source, place, instant),
+        }
+    }
+}
+
+impl fmt::Display for Known {
+    fn fmt<W: fmt::Write>(&self, f: &mut fmt::Formatter<W>) -> fmt::Result {
+        let Known { place, value } = self;
+        write!(f, "{place}={value}")
+    }
+}
 
 // The places that a source knows at an instant and how, as `0=no,3=yes`.
 #[derive(Drop)]
@@ -13,15 +37,10 @@ pub struct KnownAt<'s, S: Source> {
 
 impl<S: Source> fmt::Display for KnownAt<'_, S> {
     fn fmt<W: fmt::Write>(&self, f: &mut fmt::Formatter<W>) -> fmt::Result {
-        let mut first = true;
-        for place in 0..self.source.places() {
-            let value = told_at(self.source, place, self.instant);
-            if value != Value::Open {
-                show_value(place, value, first, f)?;
-                first = false;
-            }
-        }
-        Ok(())
+        let known = (0..self.source.places())
+            .map(|place| Known::of(self.source, place, self.instant))
+            .filter(|known| known.value != Value::Open);
+        write_list(f, known)
     }
 }
 
@@ -34,36 +53,17 @@ pub struct ChangedAt<'s, S: Source> {
 
 impl<S: Source> fmt::Display for ChangedAt<'_, S> {
     fn fmt<W: fmt::Write>(&self, f: &mut fmt::Formatter<W>) -> fmt::Result {
-        let mut first = true;
-        for place in 0..self.source.places() {
-            let value = told_at(self.source, place, self.instant);
-            if value != before(self.source, place, self.instant) {
-                show_value(place, value, first, f)?;
-                first = false;
-            }
-        }
-        Ok(())
+        let changed = (0..self.source.places())
+            .map(|place| Known::of(self.source, place, self.instant))
+            .filter(|known| known.value != before(self.source, known.place, self.instant));
+        write_list(f, changed)
     }
 }
 
 // What was known of a place an instant before; before the first instant nothing.
 fn before<S: Source>(source: &S, place: usize, instant: Instant) -> Value {
-    if instant.0 == 0 {
-        return Value::Open;
-    }
-    told_at(source, place, Instant(instant.0 - 1))
-}
-
-// A place and its value, with a comma before it unless it is the first.
-fn show_value<W: fmt::Write>(
-    place: usize,
-    value: Value,
-    first: bool,
-    f: &mut fmt::Formatter<W>,
-) -> fmt::Result {
-    if !first {
-        f.write_str(",")?;
-    }
-    let word = value_word(value);
-    write!(f, "{place}={word}")
+    instant.0.checked_sub(1).map_or(
+        Value::Open,
+        |earlier| told_at(source, place, Instant(earlier)),
+    )
 }

@@ -5,13 +5,12 @@ ghost use Rattle.std.specs.Prelude.{◌≡◌, if◌then◌else◌, nat_eq};
 
 mod held;
 mod known;
+mod list;
 mod refusal;
-mod values;
 
 pub use held::{HeldIn, InWords};
 pub use known::{ChangedAt, KnownAt};
 pub use refusal::Refusal;
-pub use values::value_word;
 
 // The word for one of a kind, or for none or several.
 pub fn noun(count: usize, one: &'static str, several: &'static str) -> &'static str
