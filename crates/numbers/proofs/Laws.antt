@@ -1,35 +1,35 @@
 -- Laws of numbers: what is written reads back, nothing else reads as that number, and why bytes are no number.
-use Rattle.std.proofs.Common.{◌≡◌, ℕ, ◌+◌, ◌-◌, ◌*◌, ◌/◌, ◌%◌, ◌<◌, ◌≤◌, List, [], ◌∷◌, ◌++◌, length, drop, Ok, sym, refl, ap, ◌∙◌, subst, ⊎_elim, append-nil, arith, MatchResult}
+use Rattle.std.proofs.Common.{◌≡◌, ℕ, ◌+◌, ◌-◌, ◌*◌, ◌/◌, ◌%◌, ◌<◌, ◌≤◌, List, [], ◌∷◌, ◌++◌, length, drop, Ok, Err, sym, refl, ap, ◌∙◌, subst, ⊎_elim, append-nil, arith, MatchResult}
 use Rattle.std.proofs.lemmas.List.{drop-drop, get_or-drop}
 use Rattle.std.proofs.lemmas.Bool.{cases_lt}
 use Rattle.std.proofs.lemmas.Bool.Decides.{nat_tests}
-use Rattle.numbers.specs.declared.read.First.{First}
-use Rattle.numbers.specs.declared.read.First.TheVariants.{Number as FirstNumber, Ended, NotShortest as FirstWrong}
-use Rattle.numbers.specs.Numbers.{limit, encode, first, placed, read_at, Bytes, Stands, Mended, Refuses}
+use Rattle.numbers.specs.declared.read.Leading.{Leading}
+use Rattle.numbers.specs.declared.read.Unread.TheVariants.{Ended, NotShortest as Longer}
+use Rattle.numbers.specs.Numbers.{limit, encode, First, leads, ended, wrong, first, placed, read_at, Bytes, Stands, Mended, Refuses}
 
 -- ---- by the groups that are there
-one_group : (a : ℕ) (s : List ℕ) → a < 128 → first (a ∷ s) ≡ FirstNumber a 1
+one_group : (a : ℕ) (s : List ℕ) → a < 128 → first (a ∷ s) ≡ leads a 1
 one_group a s h = grind (arith, nat_tests)
 
-two_groups : (a b : ℕ) (s : List ℕ) → 128 ≤ a → 0 < b → b < 128 → first (a ∷ b ∷ s) ≡ FirstNumber (a - 128 + b * 128) 2
+two_groups : (a b : ℕ) (s : List ℕ) → 128 ≤ a → 0 < b → b < 128 → first (a ∷ b ∷ s) ≡ leads (a - 128 + b * 128) 2
 two_groups a b s h h1 h2 = grind (arith, nat_tests)
 
-three_groups : (a b d : ℕ) (s : List ℕ) → 128 ≤ a → 128 ≤ b → 0 < d → d < 128 → first (a ∷ b ∷ d ∷ s) ≡ FirstNumber (a - 128 + (b - 128) * 128 + d * 16384) 3
+three_groups : (a b d : ℕ) (s : List ℕ) → 128 ≤ a → 128 ≤ b → 0 < d → d < 128 → first (a ∷ b ∷ d ∷ s) ≡ leads (a - 128 + (b - 128) * 128 + d * 16384) 3
 three_groups a b d s h h1 h2 h3 = grind (arith, nat_tests)
 
-ends_in_one : (a : ℕ) → 128 ≤ a → first (a ∷ []) ≡ Ended
+ends_in_one : (a : ℕ) → 128 ≤ a → first (a ∷ []) ≡ ended
 ends_in_one a h = grind (arith, nat_tests)
 
-ends_in_two : (a b : ℕ) → 128 ≤ a → 128 ≤ b → first (a ∷ b ∷ []) ≡ Ended
+ends_in_two : (a b : ℕ) → 128 ≤ a → 128 ≤ b → first (a ∷ b ∷ []) ≡ ended
 ends_in_two a b h k = grind (arith, nat_tests)
 
-second_zero : (a b : ℕ) (s : List ℕ) → 128 ≤ a → b < 1 → first (a ∷ b ∷ s) ≡ FirstWrong
+second_zero : (a b : ℕ) (s : List ℕ) → 128 ≤ a → b < 1 → first (a ∷ b ∷ s) ≡ wrong
 second_zero a b s h k = grind (arith, nat_tests)
 
-third_zero : (a b d : ℕ) (s : List ℕ) → 128 ≤ a → 128 ≤ b → d < 1 → first (a ∷ b ∷ d ∷ s) ≡ FirstWrong
+third_zero : (a b d : ℕ) (s : List ℕ) → 128 ≤ a → 128 ≤ b → d < 1 → first (a ∷ b ∷ d ∷ s) ≡ wrong
 third_zero a b d s h k z = grind (arith, nat_tests)
 
-fourth_wanted : (a b d : ℕ) (s : List ℕ) → 128 ≤ a → 128 ≤ b → 128 ≤ d → first (a ∷ b ∷ d ∷ s) ≡ FirstWrong
+fourth_wanted : (a b d : ℕ) (s : List ℕ) → 128 ≤ a → 128 ≤ b → 128 ≤ d → first (a ∷ b ∷ d ∷ s) ≡ wrong
 fourth_wanted a b d s h k z = grind (arith, nat_tests)
 
 encode_one : (n : ℕ) → n < 128 → encode n ≡ n ∷ []
@@ -48,13 +48,13 @@ back_three : (n : ℕ) → 16384 ≤ n → n < limit → (n % 128 + 128) - 128 +
 back_three n h h1 = omega arith
 
 -- ---- what is written reads back, whatever follows
-pub round : (n : ℕ) (rest : List ℕ) → n < limit → first (encode n ++ rest) ≡ FirstNumber n (length (encode n))
+pub round : (n : ℕ) (rest : List ℕ) → n < limit → first (encode n ++ rest) ≡ leads n (length (encode n))
 round n rest h =
     ⊎_elim
     (λ lo. rw (encode_one n lo) (one_group n rest lo))
     (λ hi. ⊎_elim
-    (λ lo. rw (encode_two n hi lo) (two_groups (n % 128 + 128) (n / 128) rest (omega arith) (omega arith) (omega arith) ∙ ap (λ m. FirstNumber m 2) (back_two n hi lo)))
-    (λ top. rw (encode_three n top) (three_groups (n % 128 + 128) (n / 128 % 128 + 128) (n / 16384) rest (omega arith) (omega arith) (omega arith) (omega arith) ∙ ap (λ m. FirstNumber m 3) (back_three n top h)))
+    (λ lo. rw (encode_two n hi lo) (two_groups (n % 128 + 128) (n / 128) rest (omega arith) (omega arith) (omega arith) ∙ ap (λ m. leads m 2) (back_two n hi lo)))
+    (λ top. rw (encode_three n top) (three_groups (n % 128 + 128) (n / 128 % 128 + 128) (n / 16384) rest (omega arith) (omega arith) (omega arith) (omega arith) ∙ ap (λ m. leads m 3) (back_three n top h)))
     (cases_lt n 16384))
     (cases_lt n 128)
 
@@ -62,19 +62,20 @@ round n rest h =
 abbrev Begins : List ℕ → ℕ → ℕ → Type 0
 Begins s n k = (n < limit) × (k ≡ length (encode n)) × (s ≡ encode n ++ drop k s)
 
-same_number : (s : List ℕ) (n k m j : ℕ) → first s ≡ FirstNumber n k → first s ≡ FirstNumber m j → Begins s m j → Begins s n k
+same_number : (s : List ℕ) (n k m j : ℕ) → first s ≡ leads n k → first s ≡ leads m j → Begins s m j → Begins s n k
 same_number s n k m j p q g =
-    let e : m ≡ n = cc in
-    let f : j ≡ k = cc in
+    let r : ◌≡◌ {A = Leading} (record { value = m; len = j }) (record { value = n; len = k }) = cc in
+    let e : m ≡ n = ap (λ v. v.value) r in
+    let f : j ≡ k = ap (λ v. v.len) r in
     rw (← e, ← f) g
 
-not_ended : {A : Type 0} (o : First) (n k : ℕ) → o ≡ FirstNumber n k → o ≡ Ended → A
+not_ended : {A : Type 0} (o : First) (n k : ℕ) → o ≡ leads n k → o ≡ ended → A
 not_ended o n k p q = let z : ◌≡◌ {A = ℕ} 0 1 = cc in absurd (omega arith)
 
-not_wrong : {A : Type 0} (o : First) (n k : ℕ) → o ≡ FirstNumber n k → o ≡ FirstWrong → A
+not_wrong : {A : Type 0} (o : First) (n k : ℕ) → o ≡ leads n k → o ≡ wrong → A
 not_wrong o n k p q = let z : ◌≡◌ {A = ℕ} 0 1 = cc in absurd (omega arith)
 
-not_both : {A : Type 0} (o : First) → o ≡ Ended → o ≡ FirstWrong → A
+not_both : {A : Type 0} (o : First) → o ≡ ended → o ≡ wrong → A
 not_both o p q = let z : ◌≡◌ {A = ℕ} 0 1 = cc in absurd (omega arith)
 
 begins_one : (a : ℕ) (s : List ℕ) → a < 128 → Begins (a ∷ s) a 1
@@ -101,7 +102,7 @@ begins_three a b d s h h1 h2 h3 h4 h5 =
     let e : encode n ≡ a ∷ b ∷ d ∷ [] = encode_three n (omega arith) ∙ (cc) in
     (omega arith, sym (ap length e), sym (ap (λ z. z ++ s) e))
 
-begins_past_two : (a b : ℕ) (s : List ℕ) (n k : ℕ) → 128 ≤ a → 128 ≤ b → Bytes (a ∷ b ∷ s) → first (a ∷ b ∷ s) ≡ FirstNumber n k → Begins (a ∷ b ∷ s) n k
+begins_past_two : (a b : ℕ) (s : List ℕ) (n k : ℕ) → 128 ≤ a → 128 ≤ b → Bytes (a ∷ b ∷ s) → first (a ∷ b ∷ s) ≡ leads n k → Begins (a ∷ b ∷ s) n k
 begins_past_two a b [] n k h h1 bytes e = not_ended _ n k e (ends_in_two a b h h1)
 begins_past_two a b (d ∷ s) n k h h1 bytes e =
     ⊎_elim
@@ -112,7 +113,7 @@ begins_past_two a b (d ∷ s) n k h h1 bytes e =
     (cases_lt d 128))
     (cases_lt d 1)
 
-begins_past_one : (a : ℕ) (s : List ℕ) (n k : ℕ) → 128 ≤ a → Bytes (a ∷ s) → first (a ∷ s) ≡ FirstNumber n k → Begins (a ∷ s) n k
+begins_past_one : (a : ℕ) (s : List ℕ) (n k : ℕ) → 128 ≤ a → Bytes (a ∷ s) → first (a ∷ s) ≡ leads n k → Begins (a ∷ s) n k
 begins_past_one a [] n k h bytes e = not_ended _ n k e (ends_in_one a h)
 begins_past_one a (b ∷ s) n k h bytes e =
     ⊎_elim
@@ -123,7 +124,7 @@ begins_past_one a (b ∷ s) n k h bytes e =
     (cases_lt b 128))
     (cases_lt b 1)
 
-pub unique : (s : List ℕ) (n k : ℕ) → Bytes s → first s ≡ FirstNumber n k → Begins s n k
+pub unique : (s : List ℕ) (n k : ℕ) → Bytes s → first s ≡ leads n k → Begins s n k
 unique [] n k bytes e = not_ended (first []) n k e refl
 unique (a ∷ s) n k bytes e =
     ⊎_elim
@@ -135,7 +136,7 @@ unique (a ∷ s) n k bytes e =
 Begun : List ℕ → Type 0
 Begun s = (n : ℕ) × (more : List ℕ) × (n < limit) × (s ++ more ≡ encode n)
 
-begun : (s : List ℕ) → Bytes s → first s ≡ Ended → Begun s
+begun : (s : List ℕ) → Bytes s → first s ≡ ended → Begun s
 unfolding Begun
 begun [] bytes e = (0, 0 ∷ [], omega arith, refl)
 begun (a ∷ []) bytes e =
@@ -177,7 +178,7 @@ begun (a ∷ b ∷ d ∷ s) bytes e =
     (cases_lt a 128)
 
 -- ---- and no bytes after them make a number of bytes that are not in shortest form
-wrong_stays : (s more : List ℕ) → first s ≡ FirstWrong → first (s ++ more) ≡ FirstWrong
+wrong_stays : (s more : List ℕ) → first s ≡ wrong → first (s ++ more) ≡ wrong
 wrong_stays [] more e = not_both _ refl e
 wrong_stays (a ∷ []) more e =
     ⊎_elim
@@ -221,28 +222,28 @@ module _ (bs : List ℕ) (bytes : Bytes bs) (at : ℕ) where
   bytes_on : Bytes s
   bytes_on i = subst (λ (x : ℕ). x < 256) (sym (get_or-drop at bs i 0)) (bytes (at + i))
 
-  stands : (n k : ℕ) → first s ≡ FirstNumber n k → Stands bs at n (at + k)
+  stands : (n k : ℕ) → first s ≡ leads n k → Stands bs at n (at + k)
   stands n k e =
       let u = unique s n k bytes_on e in
       record { small = u.0; bytes = u.2 ∙ ap (λ z. encode n ++ z) (drop-drop k at bs); length_is = ap (λ m. at + m) u.1 }
 
-  no_number : ((n k : ℕ) → first s ≡ FirstNumber n k → ⊥) → (n next : ℕ) → Stands bs at n next → ⊥
+  no_number : ((n k : ℕ) → first s ≡ leads n k → ⊥) → (n next : ℕ) → Stands bs at n next → ⊥
   no_number none n next st = none n (length (encode n)) (ap first st.bytes ∙ round n (drop next bs) st.small)
 
-  mended : first s ≡ Ended → Mended bs at
+  mended : first s ≡ ended → Mended bs at
   unfolding Begun
   mended e =
       let b = begun s bytes_on e in
       record { number = b.0; more = b.1; rest = []; small = b.2; bytes = b.3 ∙ sym (append-nil (encode b.0)) }
 
-  not_mended : first s ≡ FirstWrong → Mended bs at → ⊥
+  not_mended : first s ≡ wrong → Mended bs at → ⊥
   not_mended e m = not_wrong _ m.number (length (encode m.number)) (ap first m.bytes ∙ round m.number m.rest m.small) (wrong_stays s m.more e)
 
   exact : (o : First) → first s ≡ o → MatchResult (placed at (length bs) o) (λ n. Stands bs at n.value n.next) (λ f. Refuses bs at f)
-  exact (FirstNumber n k) e = stands n k e
-  exact Ended e =
+  exact (Ok v) e = stands v.value v.len e
+  exact (Err Ended) e =
       (no_number (λ n k x. not_ended _ n k x e), (λ _. mended e), λ x. absurd (let z : ◌≡◌ {A = ℕ} 0 1 = cc in omega arith))
-  exact FirstWrong e =
+  exact (Err Longer) e =
       (no_number (λ n k x. not_wrong _ n k x e), (λ x. absurd (let z : ◌≡◌ {A = ℕ} 0 1 = cc in omega arith)), λ _. not_mended e)
 
   pub read_exact : MatchResult (read_at bs at) (λ n. Stands bs at n.value n.next) (λ f. Refuses bs at f)

@@ -8,9 +8,8 @@ use Rattle.faults.specs.declared.Fault.{Fault}
 use Rattle.faults.specs.declared.Fault.TheVariants.{EndsEarly, NotShortest, UnknownEdition, OutsideLimits, PlaceOutOfOrder, BytesLeftOver, TooManyBytes}
 use Rattle.faults.specs.Table as table
 use Rattle.numbers.specs.declared.read.Number.{Number}
-use Rattle.numbers.specs.declared.read.First.{First}
-use Rattle.numbers.specs.declared.read.First.TheVariants.{Number as FirstNumber, Ended, NotShortest as FirstWrong}
-use Rattle.numbers.specs.Numbers.{most_bytes, encode, first, placed, and_then, read_at, within, edition, Bytes, Stands, Refuses}
+use Rattle.numbers.specs.declared.read.Unread.TheVariants.{Ended, NotShortest as Longer}
+use Rattle.numbers.specs.Numbers.{most_bytes, encode, First, ended, wrong, first, placed, and_then, read_at, within, edition, Bytes, Stands, Refuses}
 use Rattle.numbers.specs.Lists.{Read, read, entry, entries, list, lists}
 use Rattle.numbers.specs.Settled.{by_number, Settled}
 use Rattle.numbers.proofs.Laws.{read_exact}
@@ -26,10 +25,10 @@ first_three (a ∷ []) = refl
 first_three (a ∷ b ∷ []) = refl
 first_three (a ∷ b ∷ d ∷ s) = grind (arith, nat_tests)
 
-placed_same : (o : First) (at l l' : ℕ) → (o ≡ Ended → ⊥) → placed at l o ≡ placed at l' o
-placed_same (FirstNumber n k) at l l' h = refl
-placed_same Ended at l l' h = absurd (h refl)
-placed_same FirstWrong at l l' h = refl
+placed_same : (o : First) (at l l' : ℕ) → (o ≡ ended → ⊥) → placed at l o ≡ placed at l' o
+placed_same (Ok v) at l l' h = refl
+placed_same (Err Ended) at l l' h = absurd (h refl)
+placed_same (Err Longer) at l l' h = refl
 
 module _ (bs other : List ℕ) (n : ℕ) (same : take n other ≡ take n bs) where
   first_same : (at : ℕ) → at + 3 ≤ n → first (drop at other) ≡ first (drop at bs)
@@ -68,9 +67,9 @@ some_bytes : (n : ℕ) → 1 ≤ length (encode n)
 some_bytes n = grind (arith, nat_tests)
 
 placed_err : (o : First) (at l : ℕ) (x : Fault) → by_number x ≡ true → placed at l o ≡ Err x → place x ≡ at
-placed_err (FirstNumber n k) at l x b e = absurd (ok_err _ x e)
-placed_err Ended at l x b e = absurd (not_ended x l b (sym (err_inj {B = Number} (EndsEarly l) x e)))
-placed_err FirstWrong at l x b e = sym (ap place (err_inj {B = Number} (NotShortest at) x e))
+placed_err (Ok v) at l x b e = absurd (ok_err _ x e)
+placed_err (Err Ended) at l x b e = absurd (not_ended x l b (sym (err_inj {B = Number} (EndsEarly l) x e)))
+placed_err (Err Longer) at l x b e = sym (ap place (err_inj {B = Number} (NotShortest at) x e))
 
 -- a refusal at or after a byte, which other bytes that begin alike get too
 pub record Fixed {X : Type 0} (reads : List ℕ → Result X Fault) (bs : List ℕ) (at : ℕ) (x : Fault) : Type 0 where

@@ -1,10 +1,11 @@
 -- Numbers in groups of seven bits, lowest first, in their shortest form. Assumes nothing.
-use Rattle.std.specs.Prelude.{◌≡◌, ℕ, ◌+◌, ◌-◌, ◌*◌, ◌/◌, ◌%◌, ◌^◌, ◌<◌, ◌≤◌, cond, ◌&&◌, List, [], ◌∷◌, ◌++◌, length, drop, Ok, Err, Result, ◌==◌, nat_le, nat_lt, slice_index}
+use Rattle.std.specs.Prelude.{◌≡◌, ℕ, ◌+◌, ◌-◌, ◌*◌, ◌/◌, ◌%◌, ◌^◌, ◌<◌, cond, ◌&&◌, List, [], ◌∷◌, ◌++◌, length, drop, Ok, Err, Result, ◌==◌, nat_le, nat_lt, slice_index}
 use Rattle.faults.specs.declared.Fault.{Fault}
 use Rattle.faults.specs.declared.Fault.TheVariants.{EndsEarly, NotShortest, UnknownEdition, OutsideLimits, BufferTooShort}
 use Rattle.numbers.specs.declared.read.Number.{Number}
-use Rattle.numbers.specs.declared.read.First.{First}
-use Rattle.numbers.specs.declared.read.First.TheVariants.{Number as FirstNumber, Ended, NotShortest as FirstWrong}
+use Rattle.numbers.specs.declared.read.Leading.{Leading}
+use Rattle.numbers.specs.declared.read.Unread.{Unread}
+use Rattle.numbers.specs.declared.read.Unread.TheVariants.{Ended, NotShortest as Longer}
 
 -- the most bytes of a record or a log
 abbrev pub most_bytes : ℕ
@@ -22,32 +23,39 @@ encode n = cond (nat_lt n 128) (n ∷ []) (cond (nat_lt n 16384) ((n % 128 + 128
 abbrev pub over : List ℕ → List ℕ → List ℕ
 over xs old = xs ++ drop (length xs) old
 
+-- what bytes begin with: a number and how many bytes it has, too few bytes, or bytes that begin no number
+abbrev pub First : Type 0
+First = Result Leading Unread
+
+abbrev pub leads : ℕ → ℕ → First
+leads n k = Ok (record { value = n; len = k })
+
+abbrev pub ended : First
+ended = Err Ended
+
+abbrev pub wrong : First
+wrong = Err Longer
+
 -- what bytes begin with, group by group
 abbrev pub third : List ℕ → First
 third s =
-    cond (nat_lt (length s) 3) Ended
-    (cond (slice_index s 2 == 0) FirstWrong
-    (cond (nat_lt (slice_index s 2) 128) (FirstNumber (slice_index s 0 - 128 + (slice_index s 1 - 128) * 128 + slice_index s 2 * 16384) 3) FirstWrong))
+    cond (nat_lt (length s) 3) ended
+    (cond (slice_index s 2 == 0) wrong
+    (cond (nat_lt (slice_index s 2) 128) (leads (slice_index s 0 - 128 + (slice_index s 1 - 128) * 128 + slice_index s 2 * 16384) 3) wrong))
 
 abbrev pub second : List ℕ → First
 second s =
-    cond (nat_lt (length s) 2) Ended
-    (cond (nat_lt (slice_index s 1) 128) (cond (slice_index s 1 == 0) FirstWrong (FirstNumber (slice_index s 0 - 128 + slice_index s 1 * 128) 2)) (third s))
+    cond (nat_lt (length s) 2) ended
+    (cond (nat_lt (slice_index s 1) 128) (cond (slice_index s 1 == 0) wrong (leads (slice_index s 0 - 128 + slice_index s 1 * 128) 2)) (third s))
 
 abbrev pub first : List ℕ → First
-first s = cond (nat_lt (length s) 1) Ended (cond (nat_lt (slice_index s 0) 128) (FirstNumber (slice_index s 0) 1) (second s))
-
--- a number that bytes begin with is below the limit, and has one byte at least and all of them within
-abbrev pub Inside : ℕ → First → Type 0
-Inside len (FirstNumber n k) = (n < limit) × (0 < k) × (k ≤ len)
-Inside len Ended = Unit {0}
-Inside len FirstWrong = Unit {0}
+first s = cond (nat_lt (length s) 1) ended (cond (nat_lt (slice_index s 0) 128) (leads (slice_index s 0) 1) (second s))
 
 -- the same at a byte of bytes of some length, with the refusal's place
 abbrev pub placed : ℕ → ℕ → First → Result Number Fault
-placed at len (FirstNumber n k) = Ok (record { value = n; next = at + k })
-placed at len Ended = Err (EndsEarly len)
-placed at len FirstWrong = Err (NotShortest at)
+placed at len (Ok v) = Ok (record { value = v.value; next = at + v.len })
+placed at len (Err Ended) = Err (EndsEarly len)
+placed at len (Err Longer) = Err (NotShortest at)
 
 -- the number that stands at a byte, and the byte after it
 abbrev pub read_at : List ℕ → ℕ → Result Number Fault

@@ -1,5 +1,5 @@
-ghost use Rattle.std.specs.Prelude.{◌≡◌, ◌+◌, ◌-◌, ◌^◌, ◌<◌, ◌≤◌, length, drop, IfOk, MatchResult};
-ghost use Rattle.numbers.specs.Numbers.{first, Inside, read_at, within, edition, Stands, Refuses};
+ghost use Rattle.std.specs.Prelude.{◌≡◌, ◌^◌, ◌<◌, ◌≤◌, length, drop, IfOk, MatchResult};
+ghost use Rattle.numbers.specs.Numbers.{limit, first, read_at, within, edition, Stands, Refuses};
 
 use faults::Fault;
 
@@ -13,38 +13,44 @@ pub struct Number {
     pub next: usize,
 }
 
-// What some bytes begin with: a number and how many bytes it has, too few bytes, or bytes that begin no number.
+// A number that some bytes begin with, and how many bytes it has.
 #[derive(Clone, Copy)]
-enum First {
-    Number { value: u32, len: usize },
+struct Leading {
+    value: u32,
+    len: usize,
+}
+
+// Why some bytes begin with no number: they end too early, or it is not in its shortest form.
+#[derive(Clone, Copy)]
+enum Unread {
     Ended,
     NotShortest,
 }
 
 // Reads group by group.
-fn first_number(rest: &[u8]) -> First
+fn first_number(rest: &[u8]) -> Result<Leading, Unread>
     ensures value { result ≡ first rest.now }
-    ensures inside { Inside (length rest.now) result }
+    ensures inside { IfOk result (λ n. (n.value < limit) × (0 < n.len) × (n.len ≤ length rest.now)) }
 {
     match rest {
-        [] => First::Ended,
-        [a, ..] if *a < 128 => First::Number {
+        [] => Err(Unread::Ended),
+        [a, ..] if *a < 128 => Ok(Leading {
             value: *a as u32,
             len: 1,
-        },
-        [_] => First::Ended,
-        [_, 0, ..] => First::NotShortest,
-        [a, b, ..] if *b < 128 => First::Number {
+        }),
+        [_] => Err(Unread::Ended),
+        [_, 0, ..] => Err(Unread::NotShortest),
+        [a, b, ..] if *b < 128 => Ok(Leading {
             value: *a as u32 - 128 + *b as u32 * 128,
             len: 2,
-        },
-        [_, _] => First::Ended,
-        [_, _, 0, ..] => First::NotShortest,
-        [a, b, c, ..] if *c < 128 => First::Number {
+        }),
+        [_, _] => Err(Unread::Ended),
+        [_, _, 0, ..] => Err(Unread::NotShortest),
+        [a, b, c, ..] if *c < 128 => Ok(Leading {
             value: *a as u32 - 128 + (*b as u32 - 128) * 128 + *c as u32 * 16384,
             len: 3,
-        },
-        _ => First::NotShortest,
+        }),
+        _ => Err(Unread::NotShortest),
     }
 }
 
@@ -74,25 +80,15 @@ fn placed_number(bytes: &[u8], at: usize) -> Result<Number, Fault>
     ensures small { IfOk result (λ n. n.value < 2 ^ 21) }
     ensures inside { IfOk result (λ n. (at < n.next) × (n.next ≤ length bytes.now)) }
 {
-    match first_number(rest(bytes, at)) {
-        First::Number { value, len } => Ok(Number {
-            value,
-            next: at + len,
-        }),
-        First::Ended => Err(Fault::EndsEarly { place: bytes.len() }),
-        First::NotShortest => Err(Fault::NotShortest { place: at }),
-    }
-}
-
-// The bytes from `at` on: none where that is past the end.
-fn rest(bytes: &[u8], at: usize) -> &[u8]
-    ensures value { result.now ≡ drop at bytes.now }
-    ensures len { length result.now ≡ length bytes.now - at }
-{
-    if at > bytes.len() {
-        return &[];
-    }
-    &bytes[at..]
+    let rest = bytes.get(at..).unwrap_or(&[]);
+    let first = first_number(rest).map_err(|why| match why {
+        Unread::Ended => Fault::EndsEarly { place: bytes.len() },
+        Unread::NotShortest => Fault::NotShortest { place: at },
+    })?;
+    Ok(Number {
+        value: first.value,
+        next: at + first.len,
+    })
 }
 
 // Reads a number that must lie within limits.
