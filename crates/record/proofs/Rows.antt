@@ -1,6 +1,7 @@
 -- The held places of a row, and the bytes of a state.
-use Rattle.std.proofs.Common.{◌≡◌, ℕ, zero, suc, ◌+◌, ◌*◌, ◌<◌, ◌≤◌, Bool, true, false, ◌||◌, List, [], ◌∷◌, ◌++◌, length, get_or, take, drop, replicate, sym, refl, ap, ◌∙◌, subst, append_assoc, append-nil, add-zero, arith, length-append, take-append-drop, length-take}
-use Rattle.std.specs.List.{flat_map}
+use Rattle.std.proofs.Common.{◌≡◌, ℕ, zero, suc, ◌+◌, ◌*◌, ◌<◌, ◌≤◌, Bool, true, false, cond, ◌||◌, List, [], ◌∷◌, ◌++◌, length, get_or, take, drop, replicate, sym, refl, ap, ◌∙◌, subst, append_assoc, append-nil, add-zero, arith, length-append, take-append-drop, length-take}
+use Rattle.std.specs.List.{flat_map, count_by}
+use Rattle.std.proofs.lemmas.List.Sums.{sum_by-cons}
 use Rattle.std.proofs.lemmas.List.{take_more, take_all, get_or-drop}
 use Rattle.std.proofs.lemmas.Bool.{eq-eqb, ne_eqb, false≢true}
 use Rattle.std.proofs.lemmas.Bool.Decides.{nat_tests}
@@ -20,6 +21,15 @@ pub length_helds : (i : ℕ) (xs : List Bool) → length (helds i xs) ≤ length
 length_helds i [] = omega arith
 length_helds i (true ∷ xs) = let h = length_helds (i + 1) xs in omega arith
 length_helds i (false ∷ xs) = let h = length_helds (i + 1) xs in omega arith
+
+-- the held places are as many as the fields that are true; `grind` takes this at `count_by`
+counted : (i : ℕ) (xs : List Bool) → count_by (λ b. b) xs ≡ length (helds i xs)
+counted i [] = refl
+counted i (true ∷ xs) = let h = counted (i + 1) xs in let e = sum_by-cons (λ b. cond b 1 0) true xs in omega arith
+counted i (false ∷ xs) = let h = counted (i + 1) xs in let e = sum_by-cons (λ b. cond b 1 0) false xs in omega arith
+
+pub count_held : (xs : List Bool) → (count_by (λ b. b) xs ≡ length (helds 0 xs)) × (length (helds 0 xs) ≤ length xs)
+count_held xs = (counted 0 xs, length_helds 0 xs)
 
 pub helds_blank : (i m : ℕ) → helds i (replicate m false) ≡ []
 helds_blank i zero = refl

@@ -1,4 +1,5 @@
 ghost use Rattle.std.specs.Prelude.{◌≡◌, ◌+◌, ◌<◌, ◌≤◌, length, MatchResult};
+ghost use Rattle.trace.specs.Tables.{most_places};
 ghost use Rattle.numbers.specs.Numbers.{encode, over};
 ghost use Rattle.numbers.specs.Lists.{list_bytes};
 ghost use Rattle.record.specs.Records.{helds, said, header_of, record_of};
@@ -7,7 +8,7 @@ ghost use Rattle.record.specs.Writing.{state_of, front, Goes};
 
 use faults::Fault;
 use numbers::{number_len, write_number};
-use trace::Trace;
+use trace::{MOST_PLACES, Trace};
 
 // Writes the record of a trace at the start of the buffer, and says how many bytes it has; the bytes beyond stay.
 pub fn write_record(trace: &Trace, buffer: &mut [u8]) -> Result<usize, Fault>
@@ -54,9 +55,8 @@ fn put_header(trace: &Trace, buffer: &mut [u8]) -> usize
 }
 
 // Writes one state, into what is left of the buffer: how many places it holds, and these.
-fn put_state(row: &[bool], buffer: &mut [u8]) -> usize
-    requires small { length row.now ≤ 768 }
-    requires room { length (list_bytes (helds 0 row.now)) ≤ length buffer.old }
+fn put_state(row: &[bool; MOST_PLACES], buffer: &mut [u8]) -> usize
+    requires { length (list_bytes (helds 0 row.now)) ≤ length buffer.old }
     ensures len { result ≡ length (list_bytes (helds 0 row.now)) }
     ensures after { buffer.new ≡ over (list_bytes (helds 0 row.now)) buffer.old }
 {
@@ -65,22 +65,20 @@ fn put_state(row: &[bool], buffer: &mut [u8]) -> usize
 }
 
 // Writes the held places of a state behind their count.
-fn put_places(row: &[bool], start: usize, buffer: &mut [u8]) -> usize
-    requires small { length row.now ≤ 768 }
+fn put_places(row: &[bool; MOST_PLACES], start: usize, buffer: &mut [u8]) -> usize
     requires room { length (state_of row.now) ≤ length buffer.old }
     requires start { start ≡ length (front row.now 0) }
     ensures { Goes (front row.now 0) buffer.old start (front row.now (length row.now)) buffer.new result }
 {
     let mut at = start;
-    for place in 0..row.len() {
+    for place in 0..MOST_PLACES {
         at = put_place(row, place, at, buffer);
     }
     at
 }
 
 // Writes a place if it is held: the index of the byte after what is written so far.
-fn put_place(row: &[bool], place: usize, at: usize, buffer: &mut [u8]) -> usize
-    requires small { length row.now ≤ 768 }
+fn put_place(row: &[bool; MOST_PLACES], place: usize, at: usize, buffer: &mut [u8]) -> usize
     requires room { length (state_of row.now) ≤ length buffer.old }
     requires place { place < length row.now }
     requires at { at ≡ length (front row.now place) }
@@ -99,10 +97,7 @@ fn put_number(n: u16, buffer: &mut [u8]) -> usize
     ensures len { result ≡ length (encode n) }
     ensures after { buffer.new ≡ over (encode n) buffer.old }
 {
-    match write_number(n, buffer) {
-        Ok(len) => len,
-        Err(_) => unreachable(),
-    }
+    write_number(n, buffer).unwrap()
 }
 
 // How many bytes the record of a trace has.
@@ -128,29 +123,23 @@ fn header_len(trace: &Trace) -> usize
 }
 
 // How many bytes a state has.
-fn state_len(row: &[bool]) -> usize
-    requires { length row.now ≤ 768 }
+fn state_len(row: &[bool; MOST_PLACES]) -> usize
     ensures { result ≡ length (list_bytes (helds 0 row.now)) }
 {
     let mut len = number_len(count(row) as u16);
-    for p in 0..row.len() {
-        if row[p] {
-            len += number_len(p as u16);
+    for (place, held) in row.iter().enumerate() {
+        if *held {
+            len += number_len(place as u16);
         }
     }
     len
 }
 
 // How many places a state holds.
-fn count(row: &[bool]) -> usize
+#[tactic(auto, using(crate::proofs::Rows::count_held))]
+fn count(row: &[bool; MOST_PLACES]) -> usize
     ensures value { result ≡ length (helds 0 row.now) }
-    ensures few { result ≤ length row.now }
+    ensures few { result ≤ most_places }
 {
-    let mut n = 0;
-    for p in 0..row.len() {
-        if row[p] {
-            n += 1;
-        }
-    }
-    n
+    row.iter().filter(|held| **held).count()
 }

@@ -17,10 +17,7 @@ put_state-at-requires c =
     let s = c.loop-s.s in
     let e : get_or c.table.result.now s [] ≡ get_or t.held s [] = ap (λ held. get_or held s []) c.table.ensures in
     let room = up_to_room t s (get_or c.table.result.now s []) (omega arith) (omega (arith, t.tall)) e in
-    record {
-      small = omega (arith, ap length e, t.wide s (omega arith));
-      room = simp (length-take, length-drop) (omega (arith, room, c.loop-s.invariant.end));
-    }
+    simp (length-take, length-drop) (omega (arith, room, c.loop-s.invariant.end))
 
 pub overflow_add-at : goal.overflow_add-at
 overflow_add-at c =

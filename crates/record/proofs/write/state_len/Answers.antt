@@ -2,22 +2,22 @@ use Rattle.std.proofs.Common.{◌+◌, ◌<◌, length, sym, ap, ◌∙◌, arit
 use Rattle.record.proofs.Rows.{front_le, front_all, state_bound, length_front_held, front_not}
 use Rattle.record.specs.Writing.{front}
 use Rattle.record.proofs.write.state_len.Goals as goal
-use Rattle.record.proofs.write.state_len.Goals.{then-row-p, else-row-p}
+use Rattle.record.proofs.write.state_len.Goals.{then-held, else-held}
 
 pub overflow_add-len : goal.overflow_add-len
 overflow_add-len c =
     let row = c.args.row.now in
-    omega (arith, c.loop-p.invariant, front_le row c.loop-p.p, state_bound row c.requires, c.number_len-len-then-row-p.ensures.few)
+    omega (arith, c.loop-place.invariant, front_le row c.loop-place.place, state_bound row (omega arith), c.number_len-len-then-held.ensures.few)
 
-pub loop-p-preserved : goal.loop-p-preserved
-loop-p-preserved c =
+pub loop-place-preserved : goal.loop-place-preserved
+loop-place-preserved c =
     let row = c.args.row.now in
-    let p = c.loop-p.p in
+    let p = c.loop-place.place in
     let h : p < length row = omega arith in
-    elim c.if-row-p.branch [
-      | then-row-p w ↦ w.len-is ∙ ap (λ z. z + w.number_len-len-then-row-p.result) c.loop-p.invariant ∙ ap (λ z. length (front row p) + z) w.number_len-len-then-row-p.ensures.value ∙ sym (length_front_held row p h w.if-row-p.true)
-      | else-row-p w ↦ w.len-is ∙ c.loop-p.invariant ∙ sym (ap length (front_not row p h w.if-row-p.false))
+    elim c.if-held.branch [
+      | then-held w ↦ w.len-is ∙ ap (λ z. z + w.number_len-len-then-held.result) c.loop-place.invariant ∙ ap (λ z. length (front row p) + z) w.number_len-len-then-held.ensures.value ∙ sym (length_front_held row p h w.if-held.true)
+      | else-held w ↦ w.len-is ∙ c.loop-place.invariant ∙ sym (ap length (front_not row p h w.if-held.false))
     ]
 
 pub returns : goal.returns
-returns c = c.loop-p.invariant ∙ ap length (front_all c.args.row.now c.loop-p.p (omega arith))
+returns c = c.loop-place.invariant ∙ ap length (front_all c.args.row.now c.loop-place.place (omega arith))
