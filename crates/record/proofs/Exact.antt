@@ -1,5 +1,6 @@
 -- Accepted are exactly the records of traces: each trace has one, and it is read as that trace.
-use Rattle.std.proofs.Common.{◌≡◌, ℕ, ◌<◌, ◌≤◌, Bool, List, [], length, get_or, take, Ok, Err, sym, refl, ap, ◌∙◌, subst, inl, inr, ⊎_elim, zero-add, arith, length-take}
+use Rattle.std.proofs.Common.{◌≡◌, ℕ, ◌<◌, ◌≤◌, Bool, List, [], length, get_or, take, Ok, Err, Some, None, Option, MatchOption, MatchResult, sym, refl, ap, ◌∙◌, subst, inl, inr, ⊎_elim, zero-add, arith, length-take}
+use Rattle.std.specs.Option.{ok_or}
 use Rattle.std.proofs.lemmas.List.{take_at, get_or-map, get_or-take, get_or_past, length-map}
 use Rattle.std.proofs.lemmas.Bool.{cases_lt, false≢true}
 use Rattle.faults.specs.declared.Fault.{Fault}
@@ -95,3 +96,9 @@ module _ (bs : List ℕ) (l : Lasso) (fits : Fits l) (e : parse bs ≡ Ok (sayin
 
   pub refused_states : Refused bs FewerStatesWouldDo
   refused_states = record { no_record = no_trace; why = inr (record { lasso = saying_of l; says = e; too_many = too_many }, refl); settled = λ b. absurd (false≢true b) }
+
+-- a lasso that was read is accepted where it is a trace, and else refused
+pub decided : (bs : List ℕ) (l : Lasso) → Bytes bs → Fits l → parse bs ≡ Ok (saying_of l) → (o : Option Trace) → MatchOption o (IsTrace l.places l.shape l.held → ⊥) (λ t. (t.places ≡ l.places) × (t.shape ≡ l.shape) × (t.held ≡ l.held))
+    → MatchResult (ok_or o FewerStatesWouldDo) (λ t. Accepted bs t) (λ f. Refused bs f)
+decided bs l bytes fits e (Some t) s = accepted bs t bytes (e ∙ ap Ok (sym (said_like t l s.0 s.1 s.2)))
+decided bs l bytes fits e None none = refused_states bs l fits e none

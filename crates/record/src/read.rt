@@ -30,8 +30,7 @@ struct Lasso {
 pub fn read_record(bytes: &[u8], trace: &mut Trace) -> Result<(), Fault>
     ensures { MatchResult result (λ _. Accepted bytes.now trace.new) (λ f. Refused bytes.now f × (trace.new ≡ trace.old)) }
 {
-    let read = read_trace(bytes)?;
-    *trace = read;
+    *trace = read_trace(bytes)?;
     Ok(())
 }
 
@@ -40,10 +39,7 @@ fn read_trace(bytes: &[u8]) -> Result<Trace, Fault>
     ensures { MatchResult result (λ t. Accepted bytes.now t) (λ f. Refused bytes.now f) }
 {
     let lasso = read_lasso(bytes)?;
-    match Trace::new(lasso.places, lasso.shape, lasso.held) {
-        Some(trace) => Ok(trace),
-        None => Err(Fault::FewerStatesWouldDo),
-    }
+    Trace::new(lasso.places, lasso.shape, lasso.held).ok_or(Fault::FewerStatesWouldDo)
 }
 
 // Reads all but whether fewer states would do.
@@ -75,14 +71,14 @@ fn read_header(bytes: &[u8]) -> Result<Header, Fault>
     let places = read_within(bytes, start, 0, MOST_PLACES)?;
     let states = read_within(bytes, places.next, 1, MOST_STATES)?;
     let loop_start = read_number(bytes, states.next)?;
-    match Shape::new(states.value as usize, State(loop_start.value as usize)) {
-        Some(shape) => Ok(Header {
-            places: places.value as usize,
-            shape,
-            next: loop_start.next,
-        }),
-        None => Err(Fault::OutsideLimits { place: states.next }),
-    }
+    let shape = Shape::new(states.value as usize, State(loop_start.value as usize)).ok_or(
+        Fault::OutsideLimits { place: states.next },
+    )?;
+    Ok(Header {
+        places: places.value as usize,
+        shape,
+        next: loop_start.next,
+    })
 }
 
 // Reads the states into the table, in which nothing is held yet: the index of the byte after them.
