@@ -1,13 +1,15 @@
 -- What a node of a formula is made of, what sort it has, and the tree that it stands for.
-use Rattle.std.proofs.Common.{◌≡◌, ℕ, zero, suc, ◌+◌, ◌<◌, ◌≤◌, max, Bool, true, false, cond, ltb, List, length, take, slice_get, slice_index, Some, None, Ok, Err, Option, Result, sym, refl, ap, ap₂, ◌∙◌, arith, eqb-true, ltb-true, leb-true, get_or-take, length-take}
+use Rattle.std.proofs.Common.{◌≡◌, ℕ, zero, suc, ◌+◌, ◌<◌, ◌≤◌, max, Bool, true, false, cond, ltb, List, [], ◌∷◌, length, take, slice_get, slice_index, Some, None, Ok, Err, Option, Result, sym, refl, ap, ap₂, ◌∙◌, arith, eqb-true, ltb-true, leb-true, get_or-take, length-take}
 use Rattle.std.proofs.lemmas.Bool.{and_parts}
 use Rattle.std.proofs.lemmas.List.{length-map}
 use Rattle.std.proofs.lemmas.Option.{slice_get_within, get_or_from_slice_get}
 use Rattle.problem.specs.declared.node.Node.{Node}
 use Rattle.problem.specs.declared.node.Node.TheVariants as node
 use Rattle.problem.specs.declared.node.Constant.{Constant}
+use Rattle.problem.specs.declared.node.Constant.TheVariants as constants
 use Rattle.problem.specs.declared.node.Turn.{Turn}
 use Rattle.problem.specs.declared.node.Operator.{Operator}
+use Rattle.problem.specs.declared.node.Operator.TheVariants as operator
 use Rattle.problem.specs.declared.node.Test.{Test}
 use Rattle.problem.specs.declared.node.Comparison.{Comparison}
 use Rattle.problem.specs.declared.node.Prefix.{Prefix}
@@ -16,6 +18,10 @@ use Rattle.problem.specs.declared.node.Quantifier.{Quantifier}
 use Rattle.problem.specs.declared.sort.Sort.{Sort}
 use Rattle.problem.specs.declared.sort.Sort.TheVariants as sort
 use Rattle.problem.specs.declared.sort.Misfit.{Misfit}
+use Rattle.problem.specs.declared.relation.Arity.{Arity}
+use Rattle.problem.specs.declared.relation.Arity.TheVariants as relation_arity
+use Rattle.problem.specs.Relations.{Declared, arity_number}
+use Rattle.problem.specs.Declarations.{arities}
 use Rattle.problem.specs.Sorts.{most_past, most_variables, sort_arity, sort_past, sort_bound, is_expression, is_formula, part_node, part_sort, expression, formula, from, constant_arity, suits, outcome, prefix_past, infix_past, shallow, relation_sort, judge, Judged, found, no_sort, node_at, sort_at, arity_at, bound_at}
 use Rattle.problem.specs.Sorts as sorts
 use Rattle.problem.specs.declared.problem.Problem.{Problem}
@@ -530,6 +536,51 @@ some_arity ss i h = arity_of_some (sort_at ss i) h
 not_both : (s : Sort) → is_formula s ≡ true → is_expression s ≡ true → ⊥
 not_both (sort.Expression a b) e f = cc
 not_both (sort.Formula p b) e f = cc
+
+-- a relation has an arity, and so has an expression, where those of its parts have
+relation_some_of : (a : Arity) → 0 < arity_number a
+relation_some_of relation_arity.One = omega arith
+relation_some_of relation_arity.Two = omega arith
+
+pub relation_some : (rs : List Declared) (r : ℕ) → r < length (arities rs) → 0 < slice_index (arities rs) r
+relation_some [] r h = absurd (omega arith)
+relation_some (d ∷ rs) zero h = relation_some_of d.arity
+relation_some (d ∷ rs) (suc r) h = relation_some rs r (omega arith)
+
+constant_some : (c : Constant) → 0 < constant_arity c
+constant_some constants.Univ = omega arith
+constant_some constants.None = omega arith
+constant_some constants.Iden = omega arith
+
+outcome_some : (o : Operator) (x y : ℕ) → 0 < x → 0 < y → suits o x y ≡ true → 0 < outcome o x y
+outcome_some operator.Union x y h k e = h
+outcome_some operator.Difference x y h k e = h
+outcome_some operator.Intersection x y h k e = h
+outcome_some operator.Product x y h k e = omega arith
+outcome_some operator.Join x y h k e = let low : 3 ≤ x + y = leb-true _ _ (and_parts _ _ e).0 in omega arith
+
+module _ {s : Places} {ns : List Node} {ss : List Sort} (S : Sorted s ns ss) (own : (r : ℕ) → r < length s.arities → 0 < slice_index s.arities r) where
+  some_step : (i : ℕ) → i < length ns → ((a : ℕ) → a < i → is_expression (sort_at ss a) ≡ true → 0 < arity_at ss a) → (n : Node) → node_at ns i ≡ n → is_expression (sort_at ss i) ≡ true → 0 < arity_at ss i
+  some_step i h q (node.Relation r) e k = let p = relation_at S i h r e in omega (arith, own r p.declared, p.own)
+  some_step i h q (node.Variable v) e k = let p = variable_at S i h v e in omega (arith, p.own)
+  some_step i h q (node.Constant c) e k = let p = constant_at S i h c e in omega (arith, constant_some c, p.own)
+  some_step i h q (node.Turned t a) e k = let p = turned_at S i h t a e in omega (arith, p.own)
+  some_step i h q (node.Next a) e k = let p = next_at S i h a e in omega (arith, q a p.before p.some, p.own)
+  some_step i h q (node.Combined o a b) e k =
+      let p = combined_at S i h o a b e in
+      omega (arith, outcome_some o (arity_at ss a) (arity_at ss b) (q a p.left p.some_left) (q b p.right p.some_right) p.suited, p.own)
+  some_step i h q (node.Tested o a) e k = absurd (not_both _ (tested_at S i h o a e).own k)
+  some_step i h q (node.Compared c a b) e k = absurd (not_both _ (compared_at S i h c a b e).own k)
+  some_step i h q (node.Prefixed w a) e k = absurd (not_both _ (prefixed_at S i h w a e).own k)
+  some_step i h q (node.Joined w a b) e k = absurd (not_both _ (joined_at S i h w a b e).own k)
+  some_step i h q (node.Quantified o v a b) e k = absurd (not_both _ (quantified_at S i h o v a b e).own k)
+
+  some_below : (m i : ℕ) → i < m → i < length ns → is_expression (sort_at ss i) ≡ true → 0 < arity_at ss i
+  some_below zero i l h k = absurd (omega arith)
+  some_below (suc m) i l h k = some_step i h (λ a x. some_below m a (omega arith) (omega arith)) (node_at ns i) refl k
+
+  pub expression_some : (i : ℕ) → i < length ns → is_expression (sort_at ss i) ≡ true → 0 < arity_at ss i
+  expression_some i h k = some_below (suc i) i (omega arith) h k
 
 -- the tree of an expression has the arity of its sort, where those of its parts have
 arity_step : {s : Places} {ns : List Node} {ss : List Sort} → Sorted s ns ss → (i : ℕ) → i < length ns → ((a : ℕ) → a < i → is_expression (sort_at ss a) ≡ true → arity (expr_tree s ns a) ≡ arity_at ss a) → (n : Node) → node_at ns i ≡ n → is_expression (sort_at ss i) ≡ true → arity (expr_tree s ns i) ≡ arity_at ss i
