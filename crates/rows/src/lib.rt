@@ -1,13 +1,7 @@
 //! The values of a formula at each instant of a window, and the row of an operator from the rows of its parts.
 #![tactic(auto)]
 
-mod future;
-mod past;
-mod pointwise;
 mod row;
-mod shifts;
-mod values;
-mod walks;
 mod window;
 
 pub use row::Row;

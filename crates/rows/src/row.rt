@@ -1,13 +1,20 @@
 ghost use Rattle.std.specs.Prelude.{◌≡◌, length};
 
-use super::values::Values;
+use super::window::MOST_INSTANTS;
+use lasso::Value;
 
 mod calls;
+mod filled;
+mod future;
 mod operators;
+mod past;
+mod pointwise;
+mod shifts;
+mod walks;
 
-// The values of a formula, one an instant.
+// The values of a formula, one an instant. An array, since nothing here asks for memory.
 #[derive(Clone, Copy)]
 pub struct Row {
-    values: Values,
+    values: [Value; MOST_INSTANTS],
     ghost whole: { length values ≡ 85 },
 }

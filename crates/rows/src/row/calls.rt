@@ -3,7 +3,6 @@ ghost use Rattle.lasso.specs.Lassos.{state_at};
 ghost use Rattle.meaning.specs.Tables.{table_at};
 ghost use Rattle.meaning.specs.Rows.{RowIs};
 
-use super::super::values::{put, spread, value_at};
 use super::super::window::{MOST_INSTANTS, Window};
 use super::Row;
 use lasso::{Instant, Shape, Value};
@@ -22,22 +21,31 @@ impl Row {
     pub fn spread(states: &[Value], shape: Shape, window: Window) -> Row
         ensures { RowIs window.instants result.values (λ i. table_at states.now (state_at shape.states shape.loop_start i)) }
     {
-        Row {
-            values: spread(states, shape, window),
-        }
+        Row::filled(window, |i| state_value(states, shape, Instant(i)))
     }
 
     // The value at an instant; no from instant 85 on.
     pub fn value(&self, instant: Instant) -> Value
         ensures { result ≡ table_at self.now.values instant.0 }
     {
-        value_at(&self.values, instant.0)
+        self.values.get(instant.0).copied().unwrap_or(Value::No)
     }
 
     // Writes the value at an instant; from instant 85 on nothing alters.
     pub fn write(&mut self, instant: Instant, value: Value)
         ensures { self.new.values ≡ slice_set self.old.values instant.0 value }
     {
-        put(&mut self.values, instant.0, value);
+        // Tried: `get_mut`, after which nothing is known of what was written through it.
+        if instant.0 < self.values.len() {
+            self.values[instant.0] = value;
+        }
     }
+}
+
+// The value of the state at an instant; no where there is none.
+fn state_value(states: &[Value], shape: Shape, instant: Instant) -> Value
+    ensures { result ≡ table_at states.now (state_at shape.states shape.loop_start instant.0) }
+{
+    let state = shape.fold(instant);
+    states.get(state.0).copied().unwrap_or(Value::No)
 }

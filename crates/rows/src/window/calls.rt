@@ -1,9 +1,9 @@
-ghost use Rattle.std.specs.Prelude.{◌≡◌, ◌+◌, ◌-◌, ◌*◌, ◌<◌, ◌≤◌, MatchOption, IsSome};
+ghost use Rattle.std.specs.Prelude.{◌≡◌, ◌+◌, ◌-◌, ◌*◌, ◌<◌, ◌≤◌, cond, nat_lt, MatchOption, IsSome};
 ghost use Rattle.meaning.specs.Laws.{OneRoundIsTooFew, Rounds};
 ghost use Rattle.meaning.specs.RowLaws.{FormulasStand, RowsRight, window};
 
 use super::{MOST_INSTANTS, Window};
-use lasso::Shape;
+use lasso::{Instant, Shape};
 
 impl Window {
     // The window of a lasso that formulas need whose past is `past` deep; none where it has more than 85 instants.
@@ -52,5 +52,18 @@ impl Window {
         ensures inside { result ≤ self.instants }
     {
         self.period
+    }
+
+    // The instant after one of the window; the last is followed by the one a period before the end.
+    pub(crate) fn after(self, instant: Instant) -> Instant
+        requires { instant.0 < self.instants }
+        ensures { result.0 ≡ cond (nat_lt (instant.0 + 1) self.instants) (instant.0 + 1) (self.instants - self.period) }
+    {
+        let next = instant.0 + 1;
+        if next < self.instants {
+            Instant(next)
+        } else {
+            Instant(self.instants - self.period)
+        }
     }
 }
