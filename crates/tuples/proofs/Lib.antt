@@ -1,3 +1,3 @@
-pub mod Fill
+pub mod Counts
 pub mod Folds
 pub mod Rounds

@@ -3,6 +3,8 @@ ghost use Rattle.std.specs.Prelude.{◌≡◌, ◌≤◌, length};
 use lasso::Value;
 
 mod combined;
+mod filled;
+mod folds;
 mod formulas;
 mod leaves;
 mod numbers;
@@ -11,7 +13,7 @@ mod turned;
 
 pub use formulas::quantified;
 
-// The values of tuples of so many atoms, by the tuples' numbers.
+// The values of tuples of so many atoms, by the tuples' numbers. An array, since nothing here asks for memory.
 #[derive(Clone, Copy)]
 pub struct Tuples {
     arity: usize,

@@ -1,17 +1,19 @@
-ghost use Rattle.std.specs.Prelude.{◌≡◌, ◌-◌, ◌<◌, ◌≤◌, true, false};
+ghost use Rattle.std.specs.Prelude.{◌≡◌, ◌+◌, ◌*◌, ◌/◌, ◌%◌, ◌<◌, ◌≤◌, true, false};
+ghost use Rattle.lasso.specs.Values.{smaller};
 ghost use Rattle.lasso.specs.declared.value.Value.TheVariants.{No};
 ghost use Rattle.problem.specs.Sorts.{suits as suits_of, outcome as outcome_of};
-ghost use Rattle.meaning.specs.Tables.{TableIs, product_table, join_table, combined_table};
+ghost use Rattle.meaning.specs.Tables.{product_table, join_table, combined_table};
 ghost use Rattle.meaning.specs.Laws.{JoinAtAtoms, ProductAtAtoms};
 ghost use Rattle.meaning.specs.TableLaws.{TablesStand};
 ghost use Rattle.tuples.specs.Tabled.{table_of, Tabled};
 
 use super::super::atoms::Atoms;
 use super::Tuples;
+use super::filled::filled;
+use super::folds::highest;
 use super::numbers::{first, last, number};
-use super::parts::no_values;
 use lasso::Value;
-use problem::Operator;
+use problem::{Constant, Operator};
 
 impl Tuples {
     // Two sets of tuples combined by a sign; no tuple where their arities do not suit it.
@@ -23,13 +25,49 @@ impl Tuples {
         ensures product { ProductAtAtoms }
     {
         if !suits(operator, self.arity, other.arity) {
-            return Tuples::blank();
+            return Tuples::constant(Constant::None, atoms);
         }
+        self.suited(operator, other, atoms)
+    }
+
+    // Two sets of tuples combined by a sign that their arities suit.
+    fn suited(&self, operator: Operator, other: &Tuples, atoms: Atoms) -> Tuples
+        requires { suits_of operator self.now.arity other.now.arity ≡ true }
+        ensures { Tabled atoms.count (outcome_of operator self.now.arity other.now.arity) (combined_table operator atoms.count other.now.arity (table_of self.now) (table_of other.now)) result }
+    {
         let arity = outcome(operator, self.arity, other.arity);
-        let count = atoms.tuples(arity);
         Tuples {
             arity,
-            values: combined_values(operator, self, other, atoms, count),
+            values: filled(
+                atoms.tuples(arity),
+                |r| self.combined_value(operator, other, atoms, r),
+            ),
+        }
+    }
+
+    // The value of a tuple that comes of two sets of tuples.
+    fn combined_value(
+        &self,
+        operator: Operator,
+        other: &Tuples,
+        atoms: Atoms,
+        tuple: usize,
+    ) -> Value
+        requires { tuple < 512 }
+        ensures { result ≡ combined_table operator atoms.count other.now.arity (table_of self.now) (table_of other.now) tuple }
+    {
+        match operator {
+            Operator::Union => self.value(tuple).greater(other.value(tuple)),
+            Operator::Difference => self.value(tuple).smaller(!other.value(tuple)),
+            Operator::Intersection => self.value(tuple).smaller(other.value(tuple)),
+            Operator::Product => product_value(self, other, atoms.tuples(other.arity), tuple),
+            Operator::Join => join_value(
+                self,
+                other,
+                atoms.count(),
+                atoms.tuples(other.arity - 1),
+                tuple,
+            ),
         }
     }
 }
@@ -68,38 +106,6 @@ fn outcome(operator: Operator, a: usize, b: usize) -> usize
     }
 }
 
-// The values of the first tuples that come of two sets of tuples.
-fn combined_values(
-    operator: Operator,
-    a: &Tuples,
-    b: &Tuples,
-    atoms: Atoms,
-    count: usize,
-) -> [Value; 512]
-    requires { count ≤ 512 }
-    ensures { TableIs count result (combined_table operator atoms.count b.now.arity (table_of a.now) (table_of b.now)) }
-{
-    let mut out = no_values();
-    'fill: for r in 0..count {
-        out[r] = combined_value(operator, a, b, atoms, r);
-    }
-    out
-}
-
-// The value of a tuple that comes of two sets of tuples.
-fn combined_value(operator: Operator, a: &Tuples, b: &Tuples, atoms: Atoms, tuple: usize) -> Value
-    requires { tuple < 512 }
-    ensures { result ≡ combined_table operator atoms.count b.now.arity (table_of a.now) (table_of b.now) tuple }
-{
-    match operator {
-        Operator::Union => a.value(tuple).greater(b.value(tuple)),
-        Operator::Difference => a.value(tuple).smaller(b.value(tuple).not()),
-        Operator::Intersection => a.value(tuple).smaller(b.value(tuple)),
-        Operator::Product => product_value(a, b, atoms.tuples(b.arity), tuple),
-        Operator::Join => join_value(a, b, atoms.count(), atoms.tuples(b.arity - 1), tuple),
-    }
-}
-
 // The value of two tuples side by side; the second is one of so many.
 fn product_value(a: &Tuples, b: &Tuples, width: usize, tuple: usize) -> Value
     requires { 1 ≤ width }
@@ -109,7 +115,6 @@ fn product_value(a: &Tuples, b: &Tuples, width: usize, tuple: usize) -> Value
 }
 
 // The greatest value of two tuples that meet at an atom; the rest of the second is one of so many.
-#[tactic(auto, using(crate::proofs::Folds::highest_none, crate::proofs::Folds::highest_more))]
 fn join_value(a: &Tuples, b: &Tuples, atoms: usize, width: usize, tuple: usize) -> Value
     requires atoms { atoms ≤ 8 }
     requires some { 1 ≤ width }
@@ -117,13 +122,19 @@ fn join_value(a: &Tuples, b: &Tuples, atoms: usize, width: usize, tuple: usize) 
     requires tuple { tuple < 512 }
     ensures { result ≡ join_table atoms width (table_of a.now) (table_of b.now) tuple }
 {
-    let before = first(tuple, width);
-    let after = last(tuple, width);
-    let mut best = Value::No;
-    'atoms: for atom in 0..atoms {
-        let left = a.value(number(before, atoms, atom));
-        let right = b.value(number(atom, width, after));
-        best = best.greater(left.smaller(right));
-    }
-    best
+    highest(atoms, |atom| met_value(a, b, atoms, width, tuple, atom))
+}
+
+// The value of two tuples that meet at an atom, and come to a tuple.
+fn met_value(a: &Tuples, b: &Tuples, atoms: usize, width: usize, tuple: usize, atom: usize) -> Value
+    requires atoms { atoms ≤ 8 }
+    requires some { 1 ≤ width }
+    requires few { width ≤ 512 }
+    requires tuple { tuple < 512 }
+    requires atom { atom < atoms }
+    ensures { result ≡ smaller (table_of a.now (tuple / width * atoms + atom)) (table_of b.now (atom * width + tuple % width)) }
+{
+    let left = a.value(number(first(tuple, width), atoms, atom));
+    let right = b.value(number(atom, width, last(tuple, width)));
+    left.smaller(right)
 }

@@ -1,11 +1,11 @@
 ghost use Rattle.std.specs.Prelude.{◌≡◌};
 ghost use Rattle.meaning.specs.Tuples.{tuples as tuples_of};
-ghost use Rattle.meaning.specs.Tables.{table_at, highest, within_value, all_value, some_of_value, tested_value, compared_value, quantified_value};
+ghost use Rattle.meaning.specs.Tables.{table_at, highest as highest_of, within_value, all_value, some_of_value, tested_value, compared_value, quantified_value};
 ghost use Rattle.tuples.specs.Tabled.{table_of};
 
 use super::super::atoms::Atoms;
 use super::Tuples;
-use super::parts::value_at;
+use super::folds::{highest, lowest};
 use lasso::Value;
 use problem::{Comparison, Quantifier, Test};
 
@@ -17,7 +17,7 @@ impl Tuples {
         let count = atoms.tuples(self.arity);
         match test {
             Test::Some => greatest(self, count),
-            Test::No => greatest(self, count).not(),
+            Test::No => !greatest(self, count),
         }
     }
 
@@ -45,49 +45,39 @@ pub fn quantified(quantifier: Quantifier, domain: &Tuples, bodies: &[Value], ato
 }
 
 // The greatest value of the first tuples.
-#[tactic(auto, using(crate::proofs::Folds::highest_none, crate::proofs::Folds::highest_more))]
 fn greatest(tuples: &Tuples, count: usize) -> Value
-    ensures { result ≡ highest count (table_of tuples.now) }
+    ensures { result ≡ highest_of count (table_of tuples.now) }
 {
-    let mut best = Value::No;
-    'best: for r in 0..count {
-        best = best.greater(tuples.value(r));
-    }
-    best
+    highest(count, |r| tuples.value(r))
 }
 
 // Whether each of the first tuples is one of another set's.
-#[tactic(auto, using(crate::proofs::Folds::lowest_none, crate::proofs::Folds::lowest_more))]
 fn within(a: &Tuples, b: &Tuples, count: usize) -> Value
     ensures { result ≡ within_value count (table_of a.now) (table_of b.now) }
 {
-    let mut worst = Value::Yes;
-    'worst: for r in 0..count {
-        worst = worst.smaller(a.value(r).not().greater(b.value(r)));
-    }
-    worst
+    lowest(count, |r| (!a.value(r)).greater(b.value(r)))
 }
 
 // Whether a formula holds for all atoms of a domain.
-#[tactic(auto, using(crate::proofs::Folds::lowest_none, crate::proofs::Folds::lowest_more))]
 fn all(domain: &Tuples, bodies: &[Value], atoms: usize) -> Value
     ensures { result ≡ all_value atoms (table_of domain.now) (table_at bodies.now) }
 {
-    let mut worst = Value::Yes;
-    'worst: for atom in 0..atoms {
-        worst = worst.smaller(domain.value(atom).not().greater(value_at(bodies, atom)));
-    }
-    worst
+    lowest(
+        atoms,
+        |atom| (!domain.value(atom)).greater(body(bodies, atom)),
+    )
 }
 
 // Whether it holds for some.
-#[tactic(auto, using(crate::proofs::Folds::highest_none, crate::proofs::Folds::highest_more))]
 fn some(domain: &Tuples, bodies: &[Value], atoms: usize) -> Value
     ensures { result ≡ some_of_value atoms (table_of domain.now) (table_at bodies.now) }
 {
-    let mut best = Value::No;
-    'best: for atom in 0..atoms {
-        best = best.greater(domain.value(atom).smaller(value_at(bodies, atom)));
-    }
-    best
+    highest(atoms, |atom| domain.value(atom).smaller(body(bodies, atom)))
+}
+
+// What a formula is for an atom; no beyond the last.
+fn body(bodies: &[Value], atom: usize) -> Value
+    ensures { result ≡ table_at bodies.now atom }
+{
+    bodies.get(atom).copied().unwrap_or(Value::No)
 }

@@ -1,9 +1,9 @@
-ghost use Rattle.std.specs.Prelude.{◌≡◌, ◌≤◌, Bool};
-ghost use Rattle.lasso.specs.declared.value.Value.TheVariants.{No};
-ghost use Rattle.meaning.specs.Tables.{TableIs, table_at, decided as decided_of};
+ghost use Rattle.std.specs.Prelude.{◌≡◌, ℕ, ◌<◌, ◌≤◌};
+ghost use Rattle.meaning.specs.Tables.{table_at};
 ghost use Rattle.tuples.specs.Tabled.{table_of};
 
 use super::Tuples;
+use super::filled::filled;
 use lasso::Value;
 
 impl Tuples {
@@ -20,41 +20,18 @@ impl Tuples {
     pub fn value(&self, tuple: usize) -> Value
         ensures { result ≡ table_of self.now tuple }
     {
-        value_at(&self.values, tuple)
+        self.values.get(tuple).copied().unwrap_or(Value::No)
     }
 
-    // No tuple, of one atom each.
-    pub(crate) fn blank() -> Tuples
-        ensures arity { result.arity ≡ 1 }
-        ensures values { TableIs 512 result.values (λ r. No) }
+    // The values of the first tuples.
+    pub fn first<const N: usize>(&self) -> [Value; N]
+        ensures { (r : ℕ) → r < N → table_at result r ≡ table_of self.now r }
     {
-        Tuples {
-            arity: 1,
-            values: no_values(),
-        }
+        filled(
+            N,
+            |r| -> Value
+                ensures { result ≡ table_of self.entry.now r }
+            { self.value(r) },
+        )
     }
-}
-
-// A value of a list; no beyond its end.
-pub(crate) fn value_at(values: &[Value], at: usize) -> Value
-    ensures { result ≡ table_at values.now at }
-{
-    if at < values.len() {
-        return values[at];
-    }
-    Value::No
-}
-
-// No for each tuple.
-pub(crate) fn no_values() -> [Value; 512]
-    ensures { TableIs 512 result (λ r. No) }
-{
-    [Value::No; 512]
-}
-
-// Yes or no.
-pub(crate) fn decided(held: bool) -> Value
-    ensures { result ≡ decided_of held }
-{
-    if held { Value::Yes } else { Value::No }
 }

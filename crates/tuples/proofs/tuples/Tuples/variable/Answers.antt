@@ -1,0 +1,5 @@
+use Rattle.std.proofs.Common.{rules, arith}
+use Rattle.tuples.proofs.tuples.Tuples.variable.Goals as goal
+
+pub returns : goal.returns
+returns c = (search rules, λ r l. let h = c.filled.ensures r (omega arith) in search rules)
