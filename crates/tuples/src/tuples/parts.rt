@@ -1,5 +1,5 @@
-ghost use Rattle.std.specs.Prelude.{◌≡◌, ℕ, ◌<◌, ◌≤◌};
-ghost use Rattle.meaning.specs.Tables.{table_at};
+ghost use Rattle.std.specs.Prelude.{◌≡◌, ℕ, ◌<◌, ◌≤◌, slice_index_or};
+ghost use Rattle.lasso.specs.declared.value.Value.{Value as ValueOf};
 ghost use Rattle.tuples.specs.Tabled.{table_of};
 
 use super::Tuples;
@@ -25,7 +25,7 @@ impl Tuples {
 
     // The values of the first tuples.
     pub fn first<const N: usize>(&self) -> [Value; N]
-        ensures { (r : ℕ) → r < N → table_at result r ≡ table_of self.now r }
+        ensures { (r : ℕ) (beyond : ValueOf) → r < N → slice_index_or result r beyond ≡ table_of self.now r }
     {
         filled(
             N,
