@@ -7,3 +7,4 @@ pub mod Whole
 pub mod Closed
 pub mod Keeps
 pub mod ClosedRows
+pub mod Puts

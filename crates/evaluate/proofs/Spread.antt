@@ -1,8 +1,6 @@
 -- Rows of what differs from state to state only, by a value for each state.
-use Rattle.std.proofs.Common.{◌≡◌, ℕ, ◌+◌, ◌<◌, ◌≤◌, ◌≢◌, List, length, set, sym, refl, ap, ◌∙◌, subst, ⊎_elim, arith, get_or-set_other, get_or-set_same}
-use Rattle.std.proofs.lemmas.Bool.{cases_lt}
+use Rattle.std.proofs.Common.{◌≡◌, ℕ, ◌<◌, ◌≤◌, List, sym, refl, ap, ◌∙◌, subst, arith}
 use Rattle.lasso.specs.declared.value.Value.{Value}
-use Rattle.lasso.specs.declared.value.Value.TheVariants.{No}
 use Rattle.lasso.specs.declared.shape.Shape.{Shape}
 use Rattle.lasso.specs.Lassos.{state_at}
 use Rattle.lasso.proofs.Folds.{state_at_below}
@@ -19,38 +17,18 @@ use Rattle.table.specs.Tables.{path_of}
 use Rattle.tuples.specs.declared.tuples.Tuples.{Tuples}
 use Rattle.tuples.specs.Tabled.{table_of}
 use Rattle.evaluate.specs.Shown.{expr_in, ExpressionIs}
-use Rattle.evaluate.specs.Members.{member_at, MembersAre}
+use Rattle.evaluate.specs.Members.{ValueIn, member_at, MembersAre}
 use Rattle.evaluate.proofs.Same.{Same, tested_same, compared_same}
 
--- the first m values are those of the first m states, at each instant of them
-abbrev pub StatesAre : Table → ℕ → List Value → Row → Type 0
-StatesAre t m vs f = (s : ℕ) → s < m → (i : ℕ) → state_at t.shape.states t.shape.loop_start i ≡ s → table_at vs s ≡ f i
-
-pub no_state : (t : Table) (vs : List Value) (f : Row) → StatesAre t 0 vs f
-no_state t vs f s h i at = absurd (omega arith)
-
-pub state_more :
-    (t : Table) (m : ℕ) (vs : List Value) (f : Row) (v : Value) → m < length vs → StatesAre t m vs f →
-    ((i : ℕ) → state_at t.shape.states t.shape.loop_start i ≡ m → v ≡ f i) → StatesAre t (m + 1) (set vs m v) f
-state_more t m vs f v h old new s b i at =
-    ⊎_elim
-    (λ lt. let ne : s ≢ m = omega arith in get_or-set_other vs m s v No ne ∙ old s lt i at)
-    (λ ge.
-    let q : s ≡ m = omega arith in
-    subst (λ (x : ℕ). table_at (set vs m v) x ≡ f i) (sym q) (get_or-set_same vs m v No h ∙ new i (at ∙ q)))
-    (cases_lt s m)
-
--- with the shape of the table read twice
+-- a row is spread from a value for each state
 pub spread_is :
-    (t : Table) (x y : Shape) (w m end : ℕ) (vs row : List Value) (f : Row) → x ≡ t.shape → y ≡ t.shape → end ≡ x.states → end ≤ m → StatesAre t m vs f →
-    RowIs w row (λ i. table_at vs (state_at y.states y.loop_start i)) → RowIs w row f
-spread_is t x y w m end vs row f ex ey is all each spread i h =
+    (t : Table) (x : Shape) (w : ℕ) (vs row : List Value) (f : Row) → x ≡ t.shape → ((s : ℕ) → s < t.shape.states → ValueIn t s (table_at vs s) f) →
+    RowIs w row (λ i. table_at vs (state_at x.states x.loop_start i)) → RowIs w row f
+spread_is t x w vs row f e each spread i h =
     let k : ℕ = t.shape.states in
     let l : ℕ = t.shape.loop_start in
-    let few : k ≤ m = let e = ap (λ (z : Shape). z.states) ex in omega arith in
-    let inside : state_at k l i < k = state_at_below k l i t.shape.loops in
-    let own : table_at row i ≡ table_at vs (state_at k l i) = subst (λ (z : Shape). table_at row i ≡ table_at vs (state_at z.states z.loop_start i)) ey (spread i h) in
-    own ∙ each (state_at k l i) (omega arith) i refl
+    let own : table_at row i ≡ table_at vs (state_at k l i) = subst (λ (z : Shape). table_at row i ≡ table_at vs (state_at z.states z.loop_start i)) e (spread i h) in
+    own ∙ (each (state_at k l i) (state_at_below k l i t.shape.loops)).value i refl
 
 module _ (n : ℕ) (p : Problem) (t : Table) (e : List ℕ) (s : ℕ) (v : Value) where
   pub tested_value_is :

@@ -1,8 +1,9 @@
 -- The value of the whole formula, from its row over the window that its past needs.
 use Rattle.std.specs.List.{slice_get}
 use Rattle.std.proofs.lemmas.Option.{slice_get_cases}
-use Rattle.std.proofs.Common.{inl, inr, None, ◌≡◌, ℕ, ◌+◌, ◌-◌, ◌<◌, ◌≤◌, List, length, sym, ap, ◌∙◌, subst, arith}
+use Rattle.std.proofs.Common.{inl, inr, None, ◌≡◌, ℕ, ◌+◌, ◌-◌, ◌<◌, ◌≤◌, List, length, refl, sym, ap, ◌∙◌, subst, arith}
 use Rattle.lasso.specs.declared.value.Value.{Value}
+use Rattle.lasso.specs.declared.shape.Shape.{Shape}
 use Rattle.problem.specs.declared.problem.Problem.{Problem}
 use Rattle.problem.specs.Problems.{atoms_in, nodes_in, sorts_in}
 use Rattle.meaning.specs.Formulas.{Formula, depth}
@@ -21,6 +22,8 @@ use Rattle.meaning.proofs.OnLassos.{formula_shows, round_fits}
 use Rattle.table.specs.declared.table.Table.{Table}
 use Rattle.table.specs.Tables.{value_in, path_of}
 use Rattle.rows.specs.declared.window.Window.{Window}
+use Rattle.evaluate.specs.declared.setting.Setting.{Setting}
+use Rattle.evaluate.specs.Settings.{row_at}
 use Rattle.evaluate.specs.Shown.{formula_at, row_of}
 
 pub root_depth : (p : Problem) (i : ℕ) → i + 1 ≡ length (nodes_in p) → depth (formula_at p i) ≡ past_at (sorts_in p) i
@@ -59,6 +62,21 @@ whole_value n w p t e i row v en ee last instants period is ev =
     let c = subst (λ (x : List ℕ). ValueIs (length (atoms_in p)) (path_of t) (formula_at p i) x 0 v) ee b in
     let r : i ≡ length (nodes_in p) - 1 = omega arith in
     subst (λ (x : ℕ). ValueIs (length (atoms_in p)) (path_of t) (formula_at p x) no_variable 0 v) r c
+
+-- by what it is evaluated by
+pub setting_value :
+    (s : Setting) (p : Problem) (t : Table) (i : ℕ) (row : List Value) → s.problem.now ≡ p → s.table.now ≡ t → i + 1 ≡ length (nodes_in p) →
+    RowIs s.window.instants row (row_at s no_variable i) → ValueIs (length (atoms_in p)) (path_of t) (formula_in p) no_variable 0 (table_at row 0)
+setting_value s p t i row ep et last is =
+    let own : Problem = s.problem.now in
+    let shape : Shape = s.table.now.shape in
+    let end : i + 1 ≡ length (nodes_in own) = subst (λ (x : Problem). i + 1 ≡ length (nodes_in x)) (sym ep) last in
+    let e : length (nodes_in own) - 1 ≡ i = omega arith in
+    let deep : s.window.instants ≡ window shape.states shape.loop_start (past_at (sorts_in own) i) =
+    s.deep ∙ ap (λ (x : ℕ). window shape.states shape.loop_start (past_at (sorts_in own) x)) e in
+    let v = whole_value s.atoms.count s.window own s.table.now no_variable i row (table_at row 0) s.counted refl end deep s.again is refl in
+    let u = subst (λ (x : Problem). ValueIs (length (atoms_in x)) (path_of s.table.now) (formula_in x) no_variable 0 (table_at row 0)) ep v in
+    subst (λ (x : Table). ValueIs (length (atoms_in p)) (path_of x) (formula_in p) no_variable 0 (table_at row 0)) et u
 
 -- the last node has a sort
 pub some_sort : (p : Problem) (i : ℕ) → i + 1 ≡ length (nodes_in p) → slice_get (sorts_in p) i ≡ None → ⊥

@@ -1,10 +1,11 @@
 -- What is worked out once for the expressions that use no variable. Assumes nothing.
-use Rattle.std.specs.Prelude.{◌≡◌, ℕ, ◌<◌, List, [], slice_index_or}
+use Rattle.std.specs.Prelude.{◌≡◌, ℕ, ◌<◌, List, [], Option, None, Some, slice_index_or}
 use Rattle.lasso.specs.declared.value.Value.{Value}
 use Rattle.lasso.specs.declared.value.Value.TheVariants.{Open}
 use Rattle.lasso.specs.Lassos.{state_at}
 use Rattle.problem.specs.declared.problem.Problem.{Problem}
-use Rattle.problem.specs.Sorts.{bound_at}
+use Rattle.problem.specs.Relations.{arity_number}
+use Rattle.problem.specs.Sorts.{arity_at, bound_at}
 use Rattle.problem.specs.Problems.{sorts_in}
 use Rattle.meaning.specs.Tuples.{tuples}
 use Rattle.meaning.specs.Formulas.{arity}
@@ -12,19 +13,8 @@ use Rattle.meaning.specs.Trees.{no_variable}
 use Rattle.meaning.specs.Expressions.{expr_table}
 use Rattle.table.specs.declared.table.Table.{Table}
 use Rattle.table.specs.Tables.{path_of}
-use Rattle.evaluate.specs.declared.known.Known.{Known}
-use Rattle.evaluate.specs.declared.known.States.{States}
+use Rattle.evaluate.specs.declared.kept.States.{States}
 use Rattle.evaluate.specs.Shown.{expr_in}
-
--- the values that are kept of a node in a state
-abbrev pub kept_states : List (List Value) → States
-kept_states vss = record { values = vss }
-
-abbrev pub states_at : List States → ℕ → List (List Value)
-states_at ts j = (slice_index_or ts j (kept_states [])).values
-
-abbrev pub kept_at : List States → ℕ → ℕ → List Value
-kept_at ts j s = slice_index_or (states_at ts j) s []
 
 -- at each instant of a state, a list has the first 64 values of an expression over n atoms with no variable bound
 abbrev pub Kept : ℕ → Problem → Table → ℕ → ℕ → List Value → Type 0
@@ -35,9 +25,10 @@ Kept n p t j s vs =
 abbrev pub KeptStates : ℕ → Problem → Table → ℕ → List (List Value) → Type 0
 KeptStates n p t j vss = (s : ℕ) → s < t.shape.states → Kept n p t j s (slice_index_or vss s [])
 
--- for those of the first m nodes that use no variable
-abbrev pub KeptNodes : ℕ → Problem → Table → ℕ → List States → Type 0
-KeptNodes n p t m ts = (j : ℕ) → j < m → bound_at (sorts_in p) j ≡ 0 → KeptStates n p t j (states_at ts j)
+-- of a node that uses no variable, whose tuples have so many atoms
+abbrev pub StatesAre : ℕ → Problem → Table → ℕ → States → Type 0
+StatesAre n p t j x = (bound_at (sorts_in p) j ≡ 0) × (arity_number x.arity ≡ arity_at (sorts_in p) j) × KeptStates n p t j x.values
 
-abbrev pub KnownIs : ℕ → Problem → Table → Known → Type 0
-KnownIs n p t k = KeptNodes n p t k.nodes k.tables
+-- whatever is kept of a node is right
+abbrev pub KnownIs : ℕ → Problem → Table → List (Option States) → Type 0
+KnownIs n p t ks = (j : ℕ) (x : States) → slice_index_or ks j None ≡ Some x → StatesAre n p t j x

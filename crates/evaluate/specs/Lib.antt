@@ -1,4 +1,5 @@
 pub mod Shown
+pub mod Settings
 pub mod Known
 pub mod Members
 pub mod Kept

@@ -7,6 +7,7 @@ use Rattle.meaning.specs.Tuples.{tuples}
 use Rattle.meaning.specs.Formulas.{arity}
 use Rattle.meaning.specs.Tables.{table_at}
 use Rattle.meaning.specs.Expressions.{expr_table}
+use Rattle.meaning.specs.Rows.{Row}
 use Rattle.table.specs.declared.table.Table.{Table}
 use Rattle.table.specs.Tables.{path_of}
 use Rattle.evaluate.specs.Shown.{expr_in}
@@ -14,6 +15,14 @@ use Rattle.evaluate.specs.Shown.{expr_in}
 -- the value of a tuple in a state, by the values of each state
 abbrev pub member_at : List (List Value) → ℕ → ℕ → Value
 member_at vss s a = table_at (slice_index_or vss s []) a
+
+-- a value is that of a row at each instant of a state
+pub record ValueIn (t : Table) (state : ℕ) (v : Value) (row : Row) : Type 0 where
+  pub value : (i : ℕ) → state_at t.shape.states t.shape.loop_start i ≡ state → v ≡ row i
+
+-- at each instant of a state, a list has the first k values of an expression over n atoms
+pub record FirstAre (k n : ℕ) (p : Problem) (t : Table) (e : List ℕ) (node state : ℕ) (vs : List Value) : Type 0 where
+  pub value : (i q : ℕ) (beyond : Value) → state_at t.shape.states t.shape.loop_start i ≡ state → q < k → q < tuples n (arity (expr_in p node)) → slice_index_or vs q beyond ≡ expr_table n (path_of t) (expr_in p node) e i q
 
 -- at each instant of a state, a list has the first 8 values of an expression over n atoms
 abbrev pub MembersIn : ℕ → Problem → Table → List ℕ → ℕ → ℕ → List Value → Type 0

@@ -5,13 +5,12 @@ ghost use Rattle.meaning.specs.NodeLaws.{NodesStand, past_at};
 ghost use Rattle.meaning.specs.Laws.{AtMostOneValue, ValueOnLasso};
 ghost use Rattle.meaning.specs.TableLaws.{ExpressionsStand};
 ghost use Rattle.meaning.specs.Trees.{formula_in, no_variable};
-ghost use Rattle.meaning.specs.RowLaws.{window as window_of};
 ghost use Rattle.meaning.specs.Tables.{table_at};
 ghost use Rattle.table.specs.Tables.{path_of};
 
-use super::formula::formula;
-use super::keeping::worked_out;
-use super::row_keeping::rows_worked_out;
+use super::evaluator::Evaluator;
+use super::kept::Kept;
+use super::setting::Setting;
 use lasso::{Instant, Value};
 use problem::Problem;
 use rows::{Row, Window};
@@ -33,40 +32,33 @@ pub fn evaluate(problem: &Problem, table: &Table) -> Value
 fn whole_row(problem: &Problem, table: &Table) -> Row
     ensures { ValueIs (length (atoms_in problem.now)) (path_of table.now) (formula_in problem.now) no_variable 0 (table_at result.values 0) }
 {
-    let atoms = atoms_of(problem);
-    let known = worked_out(problem, table, atoms);
-    let window = window_of(problem, table);
-    let kept = rows_worked_out(problem, table, atoms, &known, window);
-    formula(
-        problem,
-        table,
-        atoms,
-        &known,
-        &kept,
-        window,
-        &[0; 4],
-        problem.root(),
-    )
+    let mut evaluator = blank(setting(problem, table));
+    evaluator.keep_tables();
+    evaluator.keep_rows();
+    evaluator.formula(&[0; 4], problem.root())
 }
 
-// The atoms of a problem.
-fn atoms_of(problem: &Problem) -> Atoms
-    ensures { result.count ≡ length (atoms_in problem.now) }
+// Nothing is worked out yet.
+fn blank(setting: Setting<'_>) -> Evaluator<'_>
+    ensures { result.setting ≡ setting.entry }
 {
-    match Atoms::new(problem.atoms().len()) {
-        Some(atoms) => atoms,
-        None => unreachable!(),
+    Evaluator {
+        setting,
+        tables: Kept::nothing(),
+        rows: Kept::nothing(),
     }
 }
 
-// The instants that the formula of a problem needs, as deep as it is in the past.
-fn window_of(problem: &Problem, table: &Table) -> Window
-    ensures instants { result.instants ≡ window_of table.now.shape.states table.now.shape.loop_start (past_at (sorts_in problem.now) (length (nodes_in problem.now) - 1)) }
-    ensures period { result.period ≡ table.now.shape.states - table.now.shape.loop_start }
+// What the formula of a problem is evaluated by on the path of a table.
+fn setting<'p>(problem: &'p Problem, table: &'p Table) -> Setting<'p>
+    ensures problem { result.problem.now ≡ problem.now }
+    ensures table { result.table.now ≡ table.now }
 {
-    match Window::of(table.shape(), past(problem)) {
-        Some(window) => window,
-        None => unreachable!(),
+    Setting {
+        problem,
+        table,
+        atoms: Atoms::new(problem.atoms().len()).unwrap(),
+        window: Window::of(table.shape(), past(problem)).unwrap(),
     }
 }
 

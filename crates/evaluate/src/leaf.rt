@@ -1,145 +1,146 @@
-ghost use Rattle.std.specs.Prelude.{◌≡◌, ℕ, ◌<◌, length};
+ghost use Rattle.std.specs.Prelude.{◌≡◌, ℕ, ◌<◌, length, slice_index_or};
 ghost use Rattle.lasso.specs.Lassos.{state_at};
 ghost use Rattle.problem.specs.Problems.{nodes_in};
 ghost use Rattle.meaning.specs.Tuples.{tuples as tuples_of};
 ghost use Rattle.meaning.specs.Formulas.{arity};
-ghost use Rattle.meaning.specs.Tables.{table_at, tested_value, compared_value};
-ghost use Rattle.meaning.specs.Expressions.{expr_table};
+ghost use Rattle.meaning.specs.Tables.{tested_value as tested_of, compared_value as compared_of};
 ghost use Rattle.meaning.specs.Rows.{RowIs};
-ghost use Rattle.table.specs.Tables.{path_of};
-ghost use Rattle.tuples.specs.Tabled.{table_of};
 ghost use Rattle.evaluate.specs.Shown.{expr_in};
-ghost use Rattle.evaluate.specs.Known.{KnownIs};
-ghost use Rattle.evaluate.specs.Members.{member_at, MembersAre};
+ghost use Rattle.evaluate.specs.Members.{FirstAre, ValueIn, member_at, MembersAre};
+ghost use Rattle.evaluate.specs.Settings.{table_of_node};
 
-use super::expression::expression;
-use super::known::Known;
+use super::evaluator::Evaluator;
 use lasso::{State, Value};
-use problem::{Comparison, Problem, Test};
-use rows::{Row, Window};
-use table::{MOST_STATES, Table};
-use tuples::{Atoms, Tuples};
+use problem::{Comparison, Test};
+use rows::Row;
+use table::MOST_STATES;
 
-// At each instant, whether the expression of a node has some tuple, or none.
-pub(crate) fn tested_row(
-    problem: &Problem,
-    table: &Table,
-    atoms: Atoms,
-    known: &Known,
-    window: Window,
-    variables: &[usize; 4],
-    test: Test,
-    part: usize,
-) -> Row
-    requires part { part < length (nodes_in problem.now) }
-    requires known { KnownIs atoms.count problem.now table.now known.now }
-    ensures { RowIs window.instants result.values (λ i. tested_value test (tuples_of atoms.count (arity (expr_in problem.now part))) (expr_table atoms.count (path_of table.now) (expr_in problem.now part) variables.now i)) }
-{
-    let mut values = [Value::No; MOST_STATES];
-    'states: for s in 0..table.shape().states() {
-        values[s] = expression(problem, table, atoms, known, variables, part, State(s)).tested(
-            test, atoms,
-        );
+impl Evaluator<'_> {
+    // At each instant, whether the expression of a node has some tuple, or none.
+    pub(crate) fn tested_row(&self, variables: &[usize; 4], test: Test, part: usize) -> Row
+        requires { part < length (nodes_in self.now.setting.problem.now) }
+        ensures { RowIs self.now.setting.window.instants result.values (λ i. tested_of test (tuples_of self.now.setting.atoms.count (arity (expr_in self.now.setting.problem.now part))) (table_of_node self.now.setting variables.now part i)) }
+    {
+        let values = self.in_each_state(Value::No, |state| {
+            self.tested_value(variables, test, part, state)
+        });
+        Row::spread(&values, self.setting.table.shape(), self.setting.window)
     }
-    Row::spread(&values, table.shape(), window)
-}
 
-// At each instant, whether the expression of one node is in that of another, or the same.
-pub(crate) fn compared_row(
-    problem: &Problem,
-    table: &Table,
-    atoms: Atoms,
-    known: &Known,
-    window: Window,
-    variables: &[usize; 4],
-    comparison: Comparison,
-    left: usize,
-    right: usize,
-) -> Row
-    requires left { left < length (nodes_in problem.now) }
-    requires right { right < length (nodes_in problem.now) }
-    requires alike { arity (expr_in problem.now left) ≡ arity (expr_in problem.now right) }
-    requires known { KnownIs atoms.count problem.now table.now known.now }
-    ensures { RowIs window.instants result.values (λ i. compared_value comparison (tuples_of atoms.count (arity (expr_in problem.now left))) (expr_table atoms.count (path_of table.now) (expr_in problem.now left) variables.now i) (expr_table atoms.count (path_of table.now) (expr_in problem.now right) variables.now i)) }
-{
-    let mut values = [Value::No; MOST_STATES];
-    'states: for s in 0..table.shape().states() {
-        let first = expression(problem, table, atoms, known, variables, left, State(s));
-        let second = expression(problem, table, atoms, known, variables, right, State(s));
-        values[s] = first.compared(comparison, &second, atoms);
+    // In a state, whether the expression of a node has some tuple, or none.
+    fn tested_value(&self, variables: &[usize; 4], test: Test, part: usize, state: State) -> Value
+        requires part { part < length (nodes_in self.now.setting.problem.now) }
+        requires state { state.0 < self.now.setting.table.now.shape.states }
+        ensures { ValueIn self.now.setting.table.now state.0 result (λ i. tested_of test (tuples_of self.now.setting.atoms.count (arity (expr_in self.now.setting.problem.now part))) (table_of_node self.now.setting variables.now part i)) }
+    {
+        self.expression(variables, part, state)
+            .tested(test, self.setting.atoms)
     }
-    Row::spread(&values, table.shape(), window)
-}
 
-// The values of the first 8 tuples of the expression of a node, in each state.
-pub(crate) fn members_of(
-    problem: &Problem,
-    table: &Table,
-    atoms: Atoms,
-    known: &Known,
-    variables: &[usize; 4],
-    domain: usize,
-) -> [[Value; 8]; 17]
-    requires domain { domain < length (nodes_in problem.now) }
-    requires known { KnownIs atoms.count problem.now table.now known.now }
-    ensures { MembersAre atoms.count problem.now table.now variables.now domain table.now.shape.states result }
-{
-    let mut members = no_members();
-    'states: for s in 0..table.shape().states() {
-        let tuples = expression(problem, table, atoms, known, variables, domain, State(s));
-        members[s] = members_in(&tuples);
+    // At each instant, whether the expression of one node is in that of another, or the same.
+    pub(crate) fn compared_row(
+        &self,
+        variables: &[usize; 4],
+        comparison: Comparison,
+        left: usize,
+        right: usize,
+    ) -> Row
+        requires left { left < length (nodes_in self.now.setting.problem.now) }
+        requires right { right < length (nodes_in self.now.setting.problem.now) }
+        requires alike { arity (expr_in self.now.setting.problem.now left) ≡ arity (expr_in self.now.setting.problem.now right) }
+        ensures { RowIs self.now.setting.window.instants result.values (λ i. compared_of comparison (tuples_of self.now.setting.atoms.count (arity (expr_in self.now.setting.problem.now left))) (table_of_node self.now.setting variables.now left i) (table_of_node self.now.setting variables.now right i)) }
+    {
+        let values = self.in_each_state(Value::No, |state| {
+            self.compared_value(variables, comparison, left, right, state)
+        });
+        Row::spread(&values, self.setting.table.shape(), self.setting.window)
     }
-    members
-}
 
-fn no_members() -> [[Value; 8]; 17]
-    ensures { length result ≡ 17 }
-{
-    [[Value::No; 8]; 17]
-}
-
-// The values of the first 8 tuples.
-fn members_in(tuples: &Tuples) -> [Value; 8]
-    ensures { (a : ℕ) → a < 8 → table_at result a ≡ table_of tuples.now a }
-{
-    let mut values = [Value::No; 8];
-    'fill: for a in 0..8 {
-        values[a] = tuples.value(a);
+    // In a state, whether the expression of one node is in that of another, or the same.
+    fn compared_value(
+        &self,
+        variables: &[usize; 4],
+        comparison: Comparison,
+        left: usize,
+        right: usize,
+        state: State,
+    ) -> Value
+        requires left { left < length (nodes_in self.now.setting.problem.now) }
+        requires right { right < length (nodes_in self.now.setting.problem.now) }
+        requires alike { arity (expr_in self.now.setting.problem.now left) ≡ arity (expr_in self.now.setting.problem.now right) }
+        requires state { state.0 < self.now.setting.table.now.shape.states }
+        ensures { ValueIn self.now.setting.table.now state.0 result (λ i. compared_of comparison (tuples_of self.now.setting.atoms.count (arity (expr_in self.now.setting.problem.now left))) (table_of_node self.now.setting variables.now left i) (table_of_node self.now.setting variables.now right i)) }
+    {
+        let first = self.expression(variables, left, state);
+        let second = self.expression(variables, right, state);
+        first.compared(comparison, &second, self.setting.atoms)
     }
-    values
-}
 
-// At each instant, the value that an atom has in the state, by the values of each state.
-pub(crate) fn member_row(
-    table: &Table,
-    window: Window,
-    members: &[[Value; 8]; 17],
-    atom: usize,
-) -> Row
-    ensures { RowIs window.instants result.values (λ i. member_at members.now (state_at table.now.shape.states table.now.shape.loop_start i) atom) }
-{
-    let mut values = [Value::No; MOST_STATES];
-    'states: for s in 0..table.shape().states() {
-        values[s] = member(members, s, atom);
+    // The values of the first 8 tuples of the expression of a node, in each state.
+    pub(crate) fn members_of(
+        &self,
+        variables: &[usize; 4],
+        domain: usize,
+    ) -> [[Value; 8]; MOST_STATES]
+        requires { domain < length (nodes_in self.now.setting.problem.now) }
+        ensures { MembersAre self.now.setting.atoms.count self.now.setting.problem.now self.now.setting.table.now variables.now domain self.now.setting.table.now.shape.states result }
+    {
+        self.in_each_state(
+            [Value::No; 8],
+            |state| -> [Value; 8]
+                requires there { domain < length (nodes_in self.now.setting.problem.now) }
+                requires state { state.0 < self.now.setting.table.now.shape.states }
+                ensures { FirstAre 8 self.entry.now.setting.atoms.count self.entry.now.setting.problem.now self.entry.now.setting.table.now variables.entry.now domain state.0 result }
+            { self.first_values(variables, domain, state) },
+        )
     }
-    Row::spread(&values, table.shape(), window)
+
+    // The values of the first tuples of the expression of a node in a state.
+    pub(crate) fn first_values<const N: usize>(
+        &self,
+        variables: &[usize; 4],
+        node: usize,
+        state: State,
+    ) -> [Value; N]
+        requires there { node < length (nodes_in self.now.setting.problem.now) }
+        requires state { state.0 < self.now.setting.table.now.shape.states }
+        ensures { FirstAre N self.now.setting.atoms.count self.now.setting.problem.now self.now.setting.table.now variables.now node state.0 result }
+    {
+        self.expression(variables, node, state).first()
+    }
+
+    // At each instant, the value that an atom has in the state, by the values of each state.
+    pub(crate) fn member_row(&self, members: &[[Value; 8]; MOST_STATES], atom: usize) -> Row
+        ensures { RowIs self.now.setting.window.instants result.values (λ i. member_at members.now (state_at self.now.setting.table.now.shape.states self.now.setting.table.now.shape.loop_start i) atom) }
+    {
+        let values = self.in_each_state(Value::No, |state| member(members, state, atom));
+        Row::spread(&values, self.setting.table.shape(), self.setting.window)
+    }
+
+    // What a function gives for each state, and blanks beyond the last.
+    pub(crate) fn in_each_state<T: Copy, F: Fn(State) -> T>(
+        &self,
+        blank: T,
+        of_state: F,
+    ) -> [T; MOST_STATES]
+        requires { (s : ℕ) → s < self.now.setting.table.now.shape.states → F.pre of_state (record { 0 = s }) }
+        ensures { (s : ℕ) (d : T) → s < self.now.setting.table.now.shape.states → F.post of_state (record { 0 = s }) (slice_index_or result s d) }
+    {
+        let mut values = [blank; MOST_STATES];
+        'states: for s in 0..self.setting.table.shape().states() {
+            values[s] = of_state(State(s));
+        }
+        values
+    }
 }
 
 // The value of an atom in a state; no where none is there.
-fn member(members: &[[Value; 8]], state: usize, atom: usize) -> Value
-    ensures { result ≡ member_at members.now state atom }
+fn member(members: &[[Value; 8]], state: State, atom: usize) -> Value
+    ensures { result ≡ member_at members.now state.0 atom }
 {
-    if state < members.len() {
-        return value_at(&members[state], atom);
-    }
-    Value::No
-}
-
-fn value_at(values: &[Value], atom: usize) -> Value
-    ensures { result ≡ table_at values.now atom }
-{
-    if atom < values.len() {
-        return values[atom];
-    }
-    Value::No
+    members
+        .get(state.0)
+        .and_then(|values| values.get(atom))
+        .copied()
+        .unwrap_or(Value::No)
 }

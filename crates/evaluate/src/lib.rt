@@ -2,14 +2,15 @@
 #![tactic(auto)]
 
 mod evaluation;
+mod evaluator;
 mod expression;
 mod formula;
 mod gathering;
 mod keeping;
-mod known;
+mod kept;
 mod leaf;
 mod lookup;
 mod parts;
-mod row_keeping;
+mod setting;
 
 pub use evaluation::evaluate;

@@ -1,12 +1,12 @@
-ghost use Rattle.std.specs.Prelude.{◌≡◌, ◌<◌, length, slice_index, slice_set};
+ghost use Rattle.std.specs.Prelude.{◌≡◌, ◌<◌, Decides, length, IfSome, slice_index, slice_set};
 ghost use Rattle.lasso.specs.Lassos.{following};
 ghost use Rattle.problem.specs.Declarations.{arities};
 ghost use Rattle.problem.specs.Relations.{arity_number};
-ghost use Rattle.problem.specs.Sorts.{node_at};
-ghost use Rattle.problem.specs.Problems.{nodes_in, relations_in};
+ghost use Rattle.problem.specs.Sorts.{node_at, arity_at, bound_at};
+ghost use Rattle.problem.specs.Problems.{nodes_in, relations_in, sorts_in};
 
 use lasso::{Shape, State};
-use problem::{Arity, Node, Problem};
+use problem::{Arity, Node, Problem, Sort};
 
 // A node of a problem.
 pub(crate) fn node_at(problem: &Problem, node: usize) -> Node
@@ -24,14 +24,42 @@ pub(crate) fn arity_of(problem: &Problem, relation: usize) -> Arity
     problem.relations()[relation].arity()
 }
 
+// Whether a node uses no variable.
+pub(crate) fn is_closed(problem: &Problem, node: usize) -> bool
+    ensures { Decides result (bound_at (sorts_in problem.now) node ≡ 0) }
+{
+    match problem.sort(node) {
+        Some(sort) => sort.bound == 0,
+        None => true,
+    }
+}
+
+// The arity of a node that uses no variable, where that is one or two.
+pub(crate) fn small(problem: &Problem, node: usize) -> Option<Arity>
+    ensures { IfSome result (λ a. (bound_at (sorts_in problem.now) node ≡ 0) × (arity_number a ≡ arity_at (sorts_in problem.now) node)) }
+{
+    small_arity(problem.sort(node)?)
+}
+
+// The arity of what uses no variable, where that is one or two.
+fn small_arity(sort: Sort) -> Option<Arity>
+    ensures { IfSome result (λ a. (sort.bound ≡ 0) × (arity_number a ≡ sort.arity)) }
+{
+    if sort.bound != 0 {
+        return None;
+    }
+    match sort.arity {
+        1 => Some(Arity::One),
+        2 => Some(Arity::Two),
+        _ => None,
+    }
+}
+
 // The atom that a variable is bound to; 0 where there is no such variable.
 pub(crate) fn atom_of(variables: &[usize; 4], variable: usize) -> usize
     ensures { result ≡ slice_index variables.now variable }
 {
-    if variable < variables.len() {
-        return variables[variable];
-    }
-    0
+    variables.get(variable).copied().unwrap_or(0)
 }
 
 // The atoms of the variables, with one more bound to an atom.

@@ -1,0 +1,16 @@
+ghost use Rattle.evaluate.specs.Known.{KnownIs};
+ghost use Rattle.evaluate.specs.Kept.{KeptIs};
+
+use super::kept::{Kept, States};
+use super::setting::Setting;
+use rows::Row;
+
+// What the formula of a problem is evaluated by, and what is worked out once: of nodes that use no variable.
+#[derive(Drop)]
+pub(crate) struct Evaluator<'p> {
+    pub(crate) setting: Setting<'p>,
+    pub(crate) tables: Kept<States>,
+    pub(crate) rows: Kept<Row>,
+    ghost known: { KnownIs setting.atoms.count setting.problem.now setting.table.now tables.items },
+    ghost kept: { KeptIs setting.atoms.count setting.window setting.problem.now setting.table.now rows.items },
+}
