@@ -29,10 +29,8 @@ pub fn verdict<S: Source>(problem: &Problem, source: &S) -> Result<Value, Fault>
 fn judged(problem: &Problem, told: &Table) -> Result<Value, Fault>
     ensures { (m : Meaning) → Copied m told.now → MatchResult result (λ v. Verdict problem.now m v) (λ f. Misfit problem.now m f) }
 {
-    match fit(problem, told) {
-        Ok(()) => Ok(known_value(problem, told)),
-        Err(fault) => Err(fault),
-    }
+    fit(problem, told)?;
+    Ok(known_value(problem, told))
 }
 
 // The formula's value on the path of what is known, where the source fits.
