@@ -74,7 +74,7 @@ module _ (n : ℕ) (p : Problem) (t : Table) (e : List ℕ) (i s : ℕ) (there :
   pub turned_is : (u : Turn) (a : ℕ) (x : Tuples) → node_at (nodes_in p) i ≡ node.Turned u a → ExpressionIs n p t e a s x → (x.arity ≡ 2 → Tabled n 2 (turned_table u n (table_of x)) r) → ExpressionIs n p t e i s r
   turned_is u a x h part tabled =
       let k = turned_at (sorted_in p) i there u a h in
-      let two : arity (expr_in p a) ≡ 2 = tree_arity (sorted_in p) a (omega arith) (omega arith) ∙ k.pairs in
+      let two : arity (expr_in p a) ≡ 2 = tree_arity (sorted_in p) a (omega arith) k.some ∙ k.pairs in
       let z = tabled (part.atoms ∙ two) in
       stated_is n p t e i s (turned u (expr_in p a)) r k.tree (
         z.0,
@@ -111,7 +111,7 @@ module _ (n : ℕ) (p : Problem) (t : Table) (e : List ℕ) (i s : ℕ) (there :
         λ j at q l.
             z.1 q l
             ∙ combined_same o n (arity (expr_in p a)) (arity (expr_in p b)) (table_of x) (expr_table n (path_of t) (expr_in p a) e j) (table_of y) (expr_table n (path_of t) (expr_in p b) e j)
-            (fit o (arity (expr_in p a)) (arity (expr_in p b)) (omega arith) (omega arith) fits) (first.value j at) (second.value j at) q l,
+            (fit o (arity (expr_in p a)) (arity (expr_in p b)) (omega (arith, first.atoms, x.some)) (omega (arith, second.atoms, y.some)) fits) (first.value j at) (second.value j at) q l,
       )
 
 pub constant_node : (p : Problem) (i : ℕ) → i < length (nodes_in p) → (c : Constant) → node_at (nodes_in p) i ≡ node.Constant c → expr_in p i ≡ constant c

@@ -117,13 +117,13 @@ pub alike : (p : Problem) (i : ℕ) → i < length (nodes_in p) → (c : Compari
 alike p i there c a b h =
     let S = sorted_in p in
     let k = compared_at S i there c a b h in
-    tree_arity S a (omega arith) k.some ∙ k.alike ∙ sym (tree_arity S b (omega arith) (omega arith))
+    tree_arity S a (omega arith) k.some_left ∙ k.alike ∙ sym (tree_arity S b (omega arith) k.some_right)
 
 pub of_atoms : (p : Problem) (i : ℕ) → i < length (nodes_in p) → (q : Quantifier) (v a b : ℕ) → node_at (nodes_in p) i ≡ node.Quantified q v a b → arity (expr_in p a) ≡ 1
 of_atoms p i there q v a b h =
     let S = sorted_in p in
     let k = quantified_at S i there q v a b h in
-    tree_arity S a (omega arith) (omega arith) ∙ k.atoms
+    tree_arity S a (omega arith) k.some ∙ k.atoms
 
 -- a node that is no formula stands for none
 pub none_is_no_formula :

@@ -1,5 +1,5 @@
 -- What is kept of expressions that use no variable.
-use Rattle.std.proofs.Common.{◌≡◌, ℕ, ◌+◌, ◌<◌, ◌≤◌, List, length, sym, ap, ◌∙◌, subst, arith}
+use Rattle.std.proofs.Common.{true, ◌≡◌, ℕ, ◌+◌, ◌<◌, ◌≤◌, List, length, sym, ap, ◌∙◌, subst, arith}
 use Rattle.std.specs.Prelude.{slice_index_or}
 use Rattle.std.proofs.Math.Nat.{mul-le-mul_left}
 use Rattle.lasso.specs.declared.value.Value.{Value}
@@ -8,7 +8,7 @@ use Rattle.problem.specs.declared.relation.Arity.{Arity}
 use Rattle.problem.specs.declared.relation.Arity.TheVariants.{One, Two}
 use Rattle.problem.specs.Relations.{arity_number}
 use Rattle.problem.specs.declared.problem.Problem.{Problem}
-use Rattle.problem.specs.Sorts.{arity_at, bound_at}
+use Rattle.problem.specs.Sorts.{is_expression, sort_at, arity_at, bound_at}
 use Rattle.problem.specs.Problems.{nodes_in, sorts_in}
 use Rattle.meaning.specs.Tuples.{tuples}
 use Rattle.meaning.specs.Formulas.{arity}
@@ -22,21 +22,15 @@ use Rattle.evaluate.specs.Shown.{expr_in, ExpressionIs}
 use Rattle.evaluate.specs.Known.{Kept}
 use Rattle.evaluate.proofs.Closed.{steady}
 
-some_atom : (a : Arity) → 0 < arity_number a
-some_atom One = omega arith
-some_atom Two = omega arith
-
 few_tuples : (n : ℕ) (a : Arity) → n ≤ 8 → tuples n (arity_number a) ≤ 64
 few_tuples n One h = omega arith
 few_tuples n Two h = omega (arith, mul-le-mul_left n h)
 
 -- what is kept of an expression that uses no variable is its set of tuples
 pub kept_is :
-    (n : ℕ) (p : Problem) (t : Table) (e : List ℕ) (i s : ℕ) (a : Arity) (vs : List Value) (r : Tuples) → n ≤ 8 → i < length (nodes_in p) → bound_at (sorts_in p) i ≡ 0 →
+    (n : ℕ) (p : Problem) (t : Table) (e : List ℕ) (i s : ℕ) (a : Arity) (vs : List Value) (r : Tuples) → n ≤ 8 → i < length (nodes_in p) → is_expression (sort_at (sorts_in p) i) ≡ true → bound_at (sorts_in p) i ≡ 0 →
     arity_number a ≡ arity_at (sorts_in p) i → Kept n p t i s vs → Tabled n (arity_number a) (λ q. slice_index_or vs (0 + q) Open) r → ExpressionIs n p t e i s r
-kept_is n p t e i s a vs r few there closed ea kept tabled =
-    let x : 0 < arity_number a = some_atom a in
-    let some : 0 < arity_at (sorts_in p) i = omega arith in
+kept_is n p t e i s a vs r few there some closed ea kept tabled =
     let b : arity_number a ≡ arity (expr_in p i) = ea ∙ sym (tree_arity (sorted_in p) i there some) in
     record {
       atoms = tabled.0 ∙ b;

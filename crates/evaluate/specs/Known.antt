@@ -1,11 +1,11 @@
 -- What is worked out once for the expressions that use no variable. Assumes nothing.
-use Rattle.std.specs.Prelude.{◌≡◌, ℕ, ◌<◌, List, [], Option, None, Some, slice_index_or}
+use Rattle.std.specs.Prelude.{◌≡◌, ℕ, ◌<◌, List, [], Option, None, Some, true, slice_index_or}
 use Rattle.lasso.specs.declared.value.Value.{Value}
 use Rattle.lasso.specs.declared.value.Value.TheVariants.{Open}
 use Rattle.lasso.specs.Lassos.{state_at}
 use Rattle.problem.specs.declared.problem.Problem.{Problem}
 use Rattle.problem.specs.Relations.{arity_number}
-use Rattle.problem.specs.Sorts.{arity_at, bound_at}
+use Rattle.problem.specs.Sorts.{is_expression, sort_at, arity_at, bound_at}
 use Rattle.problem.specs.Problems.{sorts_in}
 use Rattle.meaning.specs.Tuples.{tuples}
 use Rattle.meaning.specs.Formulas.{arity}
@@ -27,7 +27,7 @@ KeptStates n p t j vss = (s : ℕ) → s < t.shape.states → Kept n p t j s (sl
 
 -- of a node that uses no variable, whose tuples have so many atoms
 abbrev pub StatesAre : ℕ → Problem → Table → ℕ → States → Type 0
-StatesAre n p t j x = (bound_at (sorts_in p) j ≡ 0) × (arity_number x.arity ≡ arity_at (sorts_in p) j) × KeptStates n p t j x.values
+StatesAre n p t j x = (is_expression (sort_at (sorts_in p) j) ≡ true) × (bound_at (sorts_in p) j ≡ 0) × (arity_number x.arity ≡ arity_at (sorts_in p) j) × KeptStates n p t j x.values
 
 -- whatever is kept of a node is right
 abbrev pub KnownIs : ℕ → Problem → Table → List (Option States) → Type 0

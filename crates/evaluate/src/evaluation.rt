@@ -68,7 +68,7 @@ fn past(problem: &Problem) -> usize
     ensures few { result ≤ 4 }
 {
     match problem.sort(problem.root()) {
-        Some(sort) => sort.past,
+        Some(sort) => sort.past(),
         None => 0,
     }
 }

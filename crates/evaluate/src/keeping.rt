@@ -1,6 +1,6 @@
-ghost use Rattle.std.specs.Prelude.{◌≡◌, ◌<◌, length};
+ghost use Rattle.std.specs.Prelude.{◌≡◌, ◌<◌, true, length};
 ghost use Rattle.problem.specs.Relations.{arity_number};
-ghost use Rattle.problem.specs.Sorts.{arity_at, bound_at};
+ghost use Rattle.problem.specs.Sorts.{is_expression, sort_at, arity_at, bound_at};
 ghost use Rattle.problem.specs.Problems.{nodes_in, sorts_in};
 ghost use Rattle.meaning.specs.Trees.{no_variable};
 ghost use Rattle.evaluate.specs.Known.{StatesAre};
@@ -17,7 +17,7 @@ impl Evaluator<'_> {
     pub(crate) fn keep_tables(&mut self)
         ensures { self.new.setting ≡ self.old.setting }
     {
-        'nodes: for node in 0..self.setting.problem.nodes().len() {
+        'nodes: for node in 0..self.setting.problem.parts().len() {
             if let Some(arity) = small(self.setting.problem, node) {
                 let states = self.states_of(node, arity);
                 self.tables.put(node, states);
@@ -29,6 +29,7 @@ impl Evaluator<'_> {
     fn states_of(&self, node: usize, arity: Arity) -> States
         requires there { node < length (nodes_in self.now.setting.problem.now) }
         requires closed { bound_at (sorts_in self.now.setting.problem.now) node ≡ 0 }
+        requires expression { is_expression (sort_at (sorts_in self.now.setting.problem.now) node) ≡ true }
         requires arity { arity_number arity ≡ arity_at (sorts_in self.now.setting.problem.now) node }
         ensures { StatesAre self.now.setting.atoms.count self.now.setting.problem.now self.now.setting.table.now node result }
     {
@@ -49,7 +50,7 @@ impl Evaluator<'_> {
     pub(crate) fn keep_rows(&mut self)
         ensures { self.new.setting ≡ self.old.setting }
     {
-        'nodes: for node in 0..self.setting.problem.nodes().len() {
+        'nodes: for node in 0..self.setting.problem.parts().len() {
             if is_closed(self.setting.problem, node) {
                 let row = self.formula(&[0; 4], node);
                 self.rows.put(node, row);

@@ -1,8 +1,8 @@
-ghost use Rattle.std.specs.Prelude.{◌≡◌, ◌<◌, Decides, length, IfSome, slice_index, slice_set};
+ghost use Rattle.std.specs.Prelude.{◌≡◌, ◌<◌, Decides, true, length, IfSome, slice_index, slice_set};
 ghost use Rattle.lasso.specs.Lassos.{following};
 ghost use Rattle.problem.specs.Declarations.{arities};
 ghost use Rattle.problem.specs.Relations.{arity_number};
-ghost use Rattle.problem.specs.Sorts.{node_at, arity_at, bound_at};
+ghost use Rattle.problem.specs.Sorts.{node_at, sort_at, arity_at, bound_at, sort_arity, sort_bound, is_expression};
 ghost use Rattle.problem.specs.Problems.{nodes_in, relations_in, sorts_in};
 
 use lasso::{Shape, State};
@@ -13,7 +13,7 @@ pub(crate) fn node_at(problem: &Problem, node: usize) -> Node
     requires { node < length (nodes_in problem.now) }
     ensures { node_at (nodes_in problem.now) node ≡ result }
 {
-    problem.nodes()[node]
+    problem.parts()[node].node
 }
 
 // The arity of a relation of a problem.
@@ -28,29 +28,32 @@ pub(crate) fn arity_of(problem: &Problem, relation: usize) -> Arity
 pub(crate) fn is_closed(problem: &Problem, node: usize) -> bool
     ensures { Decides result (bound_at (sorts_in problem.now) node ≡ 0) }
 {
+    bound_of(problem, node) == 0
+}
+
+// How many of the variables bound around it a node may use; 0 beyond the last.
+fn bound_of(problem: &Problem, node: usize) -> usize
+    ensures { result ≡ bound_at (sorts_in problem.now) node }
+{
     match problem.sort(node) {
-        Some(sort) => sort.bound == 0,
-        None => true,
+        Some(sort) => sort.bound(),
+        None => 0,
     }
 }
 
-// The arity of a node that uses no variable, where that is one or two.
+// The arity of an expression that uses no variable, where that is one or two.
 pub(crate) fn small(problem: &Problem, node: usize) -> Option<Arity>
-    ensures { IfSome result (λ a. (bound_at (sorts_in problem.now) node ≡ 0) × (arity_number a ≡ arity_at (sorts_in problem.now) node)) }
+    ensures { IfSome result (λ a. (is_expression (sort_at (sorts_in problem.now) node) ≡ true) × (bound_at (sorts_in problem.now) node ≡ 0) × (arity_number a ≡ arity_at (sorts_in problem.now) node)) }
 {
     small_arity(problem.sort(node)?)
 }
 
 // The arity of what uses no variable, where that is one or two.
 fn small_arity(sort: Sort) -> Option<Arity>
-    ensures { IfSome result (λ a. (sort.bound ≡ 0) × (arity_number a ≡ sort.arity)) }
+    ensures { IfSome result (λ a. (is_expression sort ≡ true) × (sort_bound sort ≡ 0) × (arity_number a ≡ sort_arity sort)) }
 {
-    if sort.bound != 0 {
-        return None;
-    }
-    match sort.arity {
-        1 => Some(Arity::One),
-        2 => Some(Arity::Two),
+    match sort {
+        Sort::Expression { arity, bound: 0 } => Arity::try_from(arity).ok(),
         _ => None,
     }
 }

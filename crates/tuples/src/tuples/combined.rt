@@ -24,18 +24,19 @@ impl Tuples {
         ensures join { JoinAtAtoms }
         ensures product { ProductAtAtoms }
     {
-        if !suits(operator, self.arity, other.arity) {
-            return Tuples::constant(Constant::None, atoms);
+        match operator.outcome(self.arity, other.arity) {
+            Some(arity) => self.suited(operator, arity, other, atoms),
+            None => Tuples::constant(Constant::None, atoms),
         }
-        self.suited(operator, other, atoms)
     }
 
-    // Two sets of tuples combined by a sign that their arities suit.
-    fn suited(&self, operator: Operator, other: &Tuples, atoms: Atoms) -> Tuples
-        requires { suits_of operator self.now.arity other.now.arity ≡ true }
+    // Two sets of tuples combined by a sign that their arities suit, of which this arity comes.
+    fn suited(&self, operator: Operator, arity: usize, other: &Tuples, atoms: Atoms) -> Tuples
+        requires outcome { arity ≡ outcome_of operator self.now.arity other.now.arity }
+        requires some { 1 ≤ arity }
+        requires few { arity ≤ 3 }
         ensures { Tabled atoms.count (outcome_of operator self.now.arity other.now.arity) (combined_table operator atoms.count other.now.arity (table_of self.now) (table_of other.now)) result }
     {
-        let arity = outcome(operator, self.arity, other.arity);
         Tuples {
             arity,
             values: filled(
@@ -69,40 +70,6 @@ impl Tuples {
                 tuple,
             ),
         }
-    }
-}
-
-// Whether two arities suit a sign.
-fn suits(operator: Operator, a: usize, b: usize) -> bool
-    requires first { a ≤ 3 }
-    requires second { b ≤ 3 }
-    ensures { result ≡ suits_of operator a b }
-{
-    match operator {
-        Operator::Union => a == b,
-        Operator::Difference => a == b,
-        Operator::Intersection => a == b,
-        Operator::Product => a + b <= 3,
-        Operator::Join => 3 <= a + b && a + b <= 5,
-    }
-}
-
-// The arity that comes of two arities that suit a sign.
-fn outcome(operator: Operator, a: usize, b: usize) -> usize
-    requires some { 1 ≤ a }
-    requires first { a ≤ 3 }
-    requires second { b ≤ 3 }
-    requires suited { suits_of operator a b ≡ true }
-    ensures value { result ≡ outcome_of operator a b }
-    ensures some { 1 ≤ result }
-    ensures few { result ≤ 3 }
-{
-    match operator {
-        Operator::Union => a,
-        Operator::Difference => a,
-        Operator::Intersection => a,
-        Operator::Product => a + b,
-        Operator::Join => a + b - 2,
     }
 }
 

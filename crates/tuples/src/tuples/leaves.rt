@@ -16,7 +16,7 @@ impl Tuples {
     pub fn constant(constant: Constant, atoms: Atoms) -> Tuples
         ensures { Tabled atoms.count (constant_arity constant) (constant_table atoms.count constant) result }
     {
-        let arity = constant_arity(constant);
+        let arity = constant.arity();
         let count = atoms.count();
         Tuples {
             arity,
@@ -43,19 +43,6 @@ impl Tuples {
             arity,
             values: filled(atoms.tuples(arity), |r| place_value(row, first_place, r)),
         }
-    }
-}
-
-// How many atoms a tuple of a constant has.
-fn constant_arity(constant: Constant) -> usize
-    ensures value { result ≡ constant_arity constant }
-    ensures some { 1 ≤ result }
-    ensures few { result ≤ 2 }
-{
-    match constant {
-        Constant::Univ => 1,
-        Constant::None => 1,
-        Constant::Iden => 2,
     }
 }
 

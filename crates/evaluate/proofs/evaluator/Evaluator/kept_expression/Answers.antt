@@ -12,5 +12,5 @@ returns c e =
     let s = c.args.state.0 in
     let right = c.args.self.now.known j c.in_ok-states.states.now c.in_ok-states.ensures in
     let here : c.in_ok-values.values.now ≡ slice_index_or c.in_ok-states.states.now.values s [] = search rules in
-    let kept : Kept n p t j s c.in_ok-values.values.now = subst (Kept n p t j s) (sym here) (right.2 s c.requires.state) in
-    kept_is n p t e j s c.in_ok-states.states.now.arity c.in_ok-values.values.now c.relation.result c.args.self.now.setting.atoms.few c.requires.there right.0 right.1 kept c.relation.ensures
+    let kept : Kept n p t j s c.in_ok-values.values.now = subst (Kept n p t j s) (sym here) (right.3 s c.requires.state) in
+    kept_is n p t e j s c.in_ok-states.states.now.arity c.in_ok-values.values.now c.relation.result c.args.self.now.setting.atoms.few c.requires.there right.0 right.1 right.2 kept c.relation.ensures

@@ -6,6 +6,7 @@ use Rattle.evaluate.proofs.evaluator.Evaluator.states_of.Goals as goal
 
 pub returns : goal.returns
 returns c = (
+  c.requires.expression,
   c.requires.closed,
   c.requires.arity,
   λ s l i at q few inside.

@@ -5,6 +5,6 @@ use Rattle.tuples.proofs.tuples.Tuples.constant.Goals as goal
 
 pub returns : goal.returns
 returns c = (
-  c.constant_arity-arity.ensures.value,
-  λ r l. let h = c.filled.ensures r No (within c.args.atoms.count _ _ _ r c.constant_arity-arity.ensures.value (omega arith) c.tuples.ensures.value l) in search rules,
+  c.arity-arity.ensures.value,
+  λ r l. let h = c.filled.ensures r No (within c.args.atoms.count _ _ _ r c.arity-arity.ensures.value (omega arith) c.tuples.ensures.value l) in search rules,
 )

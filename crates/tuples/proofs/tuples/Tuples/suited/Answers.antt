@@ -5,6 +5,6 @@ use Rattle.tuples.proofs.tuples.Tuples.suited.Goals as goal
 
 pub returns : goal.returns
 returns c = (
-  c.outcome-arity.ensures.value,
-  λ r l. let h = c.filled.ensures r No (within c.args.atoms.count _ _ _ r c.outcome-arity.ensures.value (omega arith) c.tuples.ensures.value l) in search rules,
+  c.requires.outcome,
+  λ r l. let h = c.filled.ensures r No (within c.args.atoms.count _ _ _ r c.requires.outcome (omega arith) c.tuples.ensures.value l) in search rules,
 )
