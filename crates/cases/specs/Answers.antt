@@ -1,10 +1,12 @@
 -- What is answered to a line. Assumes nothing.
-use Rattle.std.specs.Prelude.{◌≡◌, ℕ, List, codes, Ok, Err, ◌≢◌}
+use Rattle.std.specs.Prelude.{◌≡◌, ℕ, List, codes, Some, None, Ok, Err, Option, ◌≢◌}
 use Rattle.record.specs.Reading as record_reading
 use Rattle.logs.specs.Told as log_reading
 use Rattle.reader.specs.Reading.{Contents, reading}
 use Rattle.cases.specs.declared.answer.Answer.{Answer}
 use Rattle.cases.specs.declared.answer.Answer.TheVariants.{Held, Known, Accepted, Refused, Judged, Unknown}
+use Rattle.cases.specs.declared.answer.Kind.{Kind}
+use Rattle.cases.specs.declared.answer.Kind.TheVariants.{Record, Log, Text, Verdict}
 use Rattle.cases.specs.Hex.{OfBytes, NoHex}
 use Rattle.cases.specs.Judgements.{OfPair}
 
@@ -35,10 +37,24 @@ ToText text (Refused f) = OfBytes text (λ bytes. reading bytes ≡ Err f)
 ToText text (Judged j) = ⊥
 ToText text Unknown = NoHex text
 
--- the answer to a line, by its first word and what comes after it; with another word it is not understood
-pub data Answers (word text : List ℕ) : Answer → Type 0 where
-  to_record : {a : Answer} → word ≡ codes "record" → ToRecord text a → Answers word text a
-  to_log : {a : Answer} → word ≡ codes "log" → ToLog text a → Answers word text a
-  to_text : {a : Answer} → word ≡ codes "text" → ToText text a → Answers word text a
-  to_pair : {a : Answer} → word ≡ codes "verdict" → OfPair text a → Answers word text a
-  not_understood : word ≢ codes "record" → word ≢ codes "log" → word ≢ codes "text" → word ≢ codes "verdict" → Answers word text Unknown
+-- the kind of a case, by its first word; none by another
+abbrev pub IsKind : List ℕ → Option Kind → Type 0
+IsKind word (Some Record) = word ≡ codes "record"
+IsKind word (Some Log) = word ≡ codes "log"
+IsKind word (Some Text) = word ≡ codes "text"
+IsKind word (Some Verdict) = word ≡ codes "verdict"
+IsKind word None = (word ≢ codes "record") × (word ≢ codes "log") × (word ≢ codes "text") × (word ≢ codes "verdict")
+
+-- the answer to a case of a kind; any other is not understood
+abbrev pub ToKind : Option Kind → List ℕ → Answer → Type 0
+ToKind (Some Record) text a = ToRecord text a
+ToKind (Some Log) text a = ToLog text a
+ToKind (Some Text) text a = ToText text a
+ToKind (Some Verdict) text a = OfPair text a
+ToKind None text a = a ≡ Unknown
+
+-- the answer to a line
+pub record Answers (word text : List ℕ) (a : Answer) : Type 0 where
+  pub kind : Option Kind
+  pub is : IsKind word kind
+  pub answer : ToKind kind text a

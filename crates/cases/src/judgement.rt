@@ -30,8 +30,11 @@ pub fn by_log(problem: &Problem, bytes: &[u8]) -> Result<Value, NoVerdict>
     ensures { ByBytes problem.now bytes.now result }
 {
     let mut log = Log::fresh();
-    log.read(bytes).map_err(NoVerdict::LogRefused)?;
-    by_source(problem, &log)
+    // Tried: `map_err` and `?`, after which the search no longer knows what the log holds.
+    match log.read(bytes) {
+        Ok(()) => by_source(problem, &log),
+        Err(fault) => Err(NoVerdict::LogRefused(fault)),
+    }
 }
 
 // The verdict by a source, or why the source does not fit the problem.

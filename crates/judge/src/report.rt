@@ -22,7 +22,7 @@ impl fmt::Display for Accepted<'_> {
         relations_in_words(problem, f)?;
         let (horizon, parts, free) = (
             problem.horizon(),
-            problem.nodes().len(),
+            problem.parts().len(),
             problem.free_places(),
         );
         writeln!(f, "horizon: {horizon}")?;
