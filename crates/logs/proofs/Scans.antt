@@ -1,5 +1,5 @@
 -- What the loop over the marks of an instant keeps.
-use Rattle.std.proofs.Common.{◌≡◌, ℕ, zero, suc, ◌+◌, ◌-◌, ◌<◌, List, [], ◌∷◌, ◌++◌, Ok, Err, Result, refl, ap, ◌∙◌, arith}
+use Rattle.std.proofs.Common.{◌≡◌, ℕ, zero, suc, ◌+◌, ◌-◌, ◌<◌, cond, eqb, List, [], ◌∷◌, ◌++◌, Ok, Err, Result, sym, refl, ap, ◌∙◌, arith}
 use Rattle.faults.specs.declared.Fault.{Fault}
 use Rattle.lasso.specs.declared.value.Value.{Value}
 use Rattle.numbers.specs.declared.read.Number.{Number}
@@ -7,7 +7,9 @@ use Rattle.numbers.specs.Numbers.{and_then, within}
 use Rattle.numbers.specs.Lists.{entry, entries, list}
 use Rattle.logs.specs.Logs.{place_of}
 use Rattle.logs.specs.Meanings.{mark, latest, latest_of}
-use Rattle.logs.specs.Told.{told, after_marks, scan}
+use Rattle.logs.specs.declared.marks.Mark.{Mark}
+use Rattle.logs.specs.Told.{told, mark_in, after_marks, scan}
+use Rattle.numbers.proofs.ListsSound.{never, ok_inj, then_inv}
 
 pub latest_push : (p : ℕ) (v : Value) (ms : List ℕ) (m : ℕ) → latest p v (ms ++ m ∷ []) ≡ mark p (latest p v ms) m
 latest_push p v [] m = refl
@@ -17,6 +19,11 @@ pub latest_of_push : (p : ℕ) (v : Value) (rows : List (List ℕ)) (ms : List �
 latest_of_push p v [] ms = refl
 latest_of_push p v (x ∷ rows) ms = latest_of_push p (latest p v x) rows ms
 
+-- where no mark is read, no number is
+pub no_mark : (r : Result Number Fault) (f : Fault) → and_then r (λ x. Ok (mark_in x)) ≡ Err f → r ≡ Err f
+no_mark (Ok x) f e = absurd (never f (mark_in x) (sym e))
+no_mark (Err g) f e = let s : g ≡ f = cc in ap (λ z. Err z) s
+
 module _ (p : ℕ) (bs : List ℕ) (n : ℕ) where
   pub scan_got : (left low at : ℕ) (v : Value) (m : Number) → 0 < left → entry place_of bs at low n ≡ Ok m → scan p bs n left low at v ≡ scan p bs n (left - 1) (place_of m.value + 1) m.next (mark p v m.value)
   scan_got zero low at v m h e = absurd (omega arith)
@@ -24,6 +31,13 @@ module _ (p : ℕ) (bs : List ℕ) (n : ℕ) where
       let back : c ≡ suc c - 1 = omega arith in
       ap (λ r. and_then r (λ m. scan p bs n c (place_of m.value + 1) m.next (mark p v m.value))) e
       ∙ ap (λ k. scan p bs n k (place_of m.value + 1) m.next (mark p v m.value)) back
+
+  -- the same by the mark that is read
+  pub scan_mark : (left low at : ℕ) (v : Value) (m : Mark) → 0 < left → and_then (entry place_of bs at low n) (λ x. Ok (mark_in x)) ≡ Ok m
+      → scan p bs n left low at v ≡ scan p bs n (left - 1) (m.place + 1) m.next (cond (eqb m.place p) m.value v)
+  scan_mark left low at v m h e =
+      let x = then_inv (entry place_of bs at low n) (λ x. Ok (mark_in x)) m e in
+      scan_got left low at v x.0 h x.1 ∙ ap (λ (m : Mark). scan p bs n (left - 1) (m.place + 1) m.next (cond (eqb m.place p) m.value v)) (ok_inj (mark_in x.0) m x.2)
 
   pub scan_err : (left low at : ℕ) (v : Value) (f : Fault) → 0 < left → entry place_of bs at low n ≡ Err f → scan p bs n left low at v ≡ Err f
   scan_err zero low at v f h e = absurd (omega arith)

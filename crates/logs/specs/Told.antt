@@ -1,10 +1,13 @@
 -- What the reader of a log answers, and what it finds on its way. Assumes nothing.
-use Rattle.std.specs.Prelude.{◌≡◌, ℕ, zero, suc, ◌+◌, ◌<◌, true, List, is_ok, Ok, Err, Result, ◌≢◌}
+use Rattle.std.specs.Prelude.{◌≡◌, ℕ, zero, suc, ◌+◌, ◌%◌, ◌<◌, cond, true, List, is_ok, Ok, Err, Result, ◌==◌, ◌≢◌}
 use Rattle.faults.specs.declared.Fault.{Fault}
 use Rattle.lasso.specs.declared.value.Value.{Value}
+use Rattle.lasso.specs.declared.value.Value.TheVariants.{No, Yes}
+use Rattle.numbers.specs.declared.read.Number.{Number}
 use Rattle.numbers.specs.Numbers.{and_then, Bytes}
 use Rattle.numbers.specs.Lists.{Read, entry}
 use Rattle.logs.specs.declared.marks.Told.{Told}
+use Rattle.logs.specs.declared.marks.Mark.{Mark}
 use Rattle.numbers.specs.Settled.{Settled}
 use Rattle.source.specs.Meanings.{Means}
 use Rattle.logs.specs.Logs.{place_of, Said, IsLog, log_of, parse, said}
@@ -17,6 +20,10 @@ told v at = record { value = v; next = at }
 abbrev pub after_marks : ℕ → Value → Result (Read (List ℕ)) Fault → Result Told Fault
 after_marks p v (Ok r) = Ok (told (latest p v r.got) r.next)
 after_marks p v (Err f) = Err f
+
+-- the mark in a number
+abbrev pub mark_in : Number → Mark
+mark_in n = record { place = place_of n.value; value = cond (n.value % 2 == 1) Yes No; next = n.next }
 
 -- the same, mark by mark
 abbrev pub scan : ℕ → List ℕ → ℕ → ℕ → ℕ → ℕ → Value → Result Told Fault

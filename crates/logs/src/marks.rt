@@ -1,12 +1,12 @@
-ghost use Rattle.std.specs.Prelude.{◌≡◌, ◌+◌, ◌/◌, ◌<◌, ◌≤◌, length, IfOk};
+ghost use Rattle.std.specs.Prelude.{◌≡◌, ◌<◌, ◌≤◌, length, Ok, IfOk, if◌then◌else◌, nat_eq};
 ghost use Rattle.numbers.specs.Lists.{entry, list};
 ghost use Rattle.logs.specs.Logs.{place_of};
-ghost use Rattle.logs.specs.Meanings.{mark as mark_of};
-ghost use Rattle.logs.specs.Told.{after_marks};
+ghost use Rattle.numbers.specs.Numbers.{and_then};
+ghost use Rattle.logs.specs.Told.{mark_in, after_marks};
 
 use faults::Fault;
 use lasso::Value;
-use numbers::{Number, read_number, read_within};
+use numbers::{Entry, read_entry, read_within};
 
 // The value of a place after the marks of an instant, and the index of the byte after them.
 #[derive(Clone, Copy)]
@@ -15,27 +15,47 @@ pub(crate) struct Told {
     pub(crate) next: usize,
 }
 
-// The value of a place after one mark more.
-fn marked(place: usize, value: Value, mark: u32) -> Value
-    ensures { result ≡ mark_of place value mark }
-{
-    if (mark / 2) as usize != place {
-        return value;
+// A mark that was read: its place and what it says of it, and the index of the byte after it.
+#[derive(Clone, Copy)]
+struct Mark {
+    place: usize,
+    value: Value,
+    next: usize,
+}
+
+impl Mark {
+    // The value of a place after this mark.
+    fn after(self, place: usize, value: Value) -> Value
+        ensures { result ≡ (if nat_eq self.place place then self.value else value) }
+    {
+        if self.place == place {
+            self.value
+        } else {
+            value
+        }
     }
-    if mark % 2 == 1 { Value::Yes } else { Value::No }
+}
+
+// A mark is twice the place, and one more if the place is held.
+impl Entry for Mark {
+    ghost place_of = { place_of };
+
+    fn place_of(number: u32) -> usize {
+        (number / 2) as usize
+    }
 }
 
 // Reads a mark whose place lies above the ones before it and below the place count.
-fn read_mark(bytes: &[u8], at: usize, low: usize, places: usize) -> Result<Number, Fault>
-    ensures value { result ≡ entry place_of bytes.now at low places }
-    ensures inside { IfOk result (λ n. (low ≤ n.value / 2) × (n.value / 2 < places) × (n.next ≤ length bytes.now)) }
+fn read_mark(bytes: &[u8], at: usize, low: usize, places: usize) -> Result<Mark, Fault>
+    ensures value { result ≡ and_then (entry place_of bytes.now at low places) (λ n. Ok (mark_in n)) }
+    ensures inside { IfOk result (λ m. (m.place < places) × (m.next ≤ length bytes.now)) }
 {
-    let mark = read_number(bytes, at)?;
-    let place = (mark.value / 2) as usize;
-    if place < low || place >= places {
-        return Err(Fault::PlaceOutOfOrder { place: at });
-    }
-    Ok(mark)
+    let number = read_entry::<Mark>(bytes, at, low, places)?;
+    Ok(Mark {
+        place: Mark::place_of(number.value),
+        value: Value::from(number.value % 2 == 1),
+        next: number.next,
+    })
 }
 
 // Reads the marks of an instant: what they leave of a place that had a value.
@@ -54,8 +74,8 @@ pub(crate) fn read_marks(
     let (mut at, mut low, mut latest) = (counted.next, 0, value);
     for _done in 0..count {
         let mark = read_mark(bytes, at, low, places)?;
-        latest = marked(place, latest, mark.value);
-        low = (mark.value / 2) as usize + 1;
+        latest = mark.after(place, latest);
+        low = mark.place + 1;
         at = mark.next;
     }
     Ok(Told {

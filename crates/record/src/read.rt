@@ -7,7 +7,7 @@ ghost use Rattle.record.specs.Lassos.{saying_of, heading_as, Fits};
 
 use faults::Fault;
 use lasso::{Shape, State};
-use numbers::{MOST_BYTES, Number, read_edition, read_number, read_within};
+use numbers::{Entry, MOST_BYTES, Number, read_edition, read_entry, read_number, read_within};
 use trace::{MOST_PLACES, MOST_STATES, Table, Trace, blank};
 
 // What comes before the states, and the index of the byte after it.
@@ -24,6 +24,17 @@ struct Lasso {
     places: usize,
     shape: Shape,
     held: Table,
+}
+
+// The entries of a record: each number is the place itself.
+struct Place;
+
+impl Entry for Place {
+    ghost place_of = { itself };
+
+    fn place_of(number: u32) -> usize {
+        number as usize
+    }
 }
 
 // Fills the trace in from its record; or says why the bytes are no record, and leaves the trace as it is.
@@ -124,9 +135,5 @@ fn read_place(bytes: &[u8], at: usize, low: usize, places: usize) -> Result<Numb
     ensures value { result ≡ entry_at itself bytes.now at low places }
     ensures inside { IfOk result (λ n. (low ≤ n.value) × (n.value < places) × (n.next ≤ length bytes.now)) }
 {
-    let place = read_number(bytes, at)?;
-    if (place.value as usize) < low || place.value as usize >= places {
-        return Err(Fault::PlaceOutOfOrder { place: at });
-    }
-    Ok(place)
+    read_entry::<Place>(bytes, at, low, places)
 }

@@ -78,10 +78,7 @@ fn checked(bytes: &[u8]) -> Result<(), Fault>
 fn header_of(log: &Log<'_>) -> Header
     ensures { Headed log.now.bytes.now result }
 {
-    match read_header(log.bytes) {
-        Ok(header) => header,
-        Err(_) => unreachable(),
-    }
+    read_header(log.bytes).unwrap()
 }
 
 impl<'a> Log<'a> {
@@ -157,8 +154,5 @@ fn sure_marks(bytes: &[u8], at: usize, places: usize, place: usize, value: Value
     requires { is_ok (list place_of bytes.now places at) ≡ true }
     ensures { after_marks place value (list place_of bytes.now places at) ≡ Ok result }
 {
-    match read_marks(bytes, at, places, place, value) {
-        Ok(told) => told,
-        Err(_) => unreachable(),
-    }
+    read_marks(bytes, at, places, place, value).unwrap()
 }
