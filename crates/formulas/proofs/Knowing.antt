@@ -1,5 +1,5 @@
 -- Names that are known: what a lookup in each list says of what is read so far; the arity of a relation.
-use Rattle.std.proofs.Common.{◌≡◌, ℕ, ◌<◌, Bool, ◌||◌, List, map, length, get_or, is_some, Option, sym, ap, ◌∙◌, arith}
+use Rattle.std.proofs.Common.{◌≡◌, ℕ, ◌<◌, Bool, true, false, ◌||◌, List, map, length, get_or, is_some, Option, sym, refl, ap, ◌∙◌, arith}
 use Rattle.std.proofs.lemmas.List.{length-map, get_or-map}
 use Rattle.names.specs.Lookups.{index_of}
 use Rattle.problem.specs.declared.declarations.Declarations.{Declarations}
@@ -20,9 +20,13 @@ through f d s e y p q r = p ∙ ap f (q ∙ ap (λ (t : Signature). t.declared) 
 pub looked : (x : List ℕ) (t : Bool) (o : Option ℕ) (ys zs : List (List ℕ)) → t ≡ is_some o → o ≡ index_of x ys → ys ≡ zs → t ≡ is_some (index_of x zs)
 looked x t o ys zs e f g = e ∙ ap is_some (f ∙ ap (index_of x) g)
 
--- known, from three lookups
-pub known_from : (x : List ℕ) (b : Body) (p q r : Bool) → p ≡ is_some (index_of x b.atoms) → q ≡ is_some (index_of x (names_of b)) → r ≡ is_some (index_of x b.scope) → (p || (q || r)) ≡ known x b
-known_from x b p q r e f g = both (λ (s t : Bool). s || t) e (both (λ (s t : Bool). s || t) f g)
+-- known, from what is declared and what is in scope
+pub known_from : (x : List ℕ) (b : Body) (d r : Bool) → d ≡ (is_some (index_of x b.atoms) || is_some (index_of x (names_of b))) → r ≡ is_some (index_of x b.scope) → (d || r) ≡ known x b
+known_from x b d r e f = both (λ (s t : Bool). s || t) e f ∙ regroup (is_some (index_of x b.atoms)) (is_some (index_of x (names_of b))) (is_some (index_of x b.scope))
+  where
+    regroup : (p q r : Bool) → ((p || q) || r) ≡ (p || (q || r))
+    regroup true q r = refl
+    regroup false q r = refl
 
 -- the arity that stands at a relation's number
 pub arity_at : (xs : List Relation) (i a : ℕ) (r : Relation) → i < length xs → r ≡ get_or xs i r → a ≡ arity_number r.arity → a ≡ get_or (map declared_arity (map declared_of xs)) i 0

@@ -1,5 +1,5 @@
 -- Steps on what is read so far, each from what is known of its parts.
-use Rattle.std.proofs.Common.{◌≡◌, ℕ, ◌-◌, true, false, ltb, List, [], ◌∷◌, ◌++◌, map, length, get_or, take as front, Some, None, Ok, Err, Vec, sym, ap, ◌∙◌}
+use Rattle.std.proofs.Common.{◌≡◌, ℕ, ◌-◌, true, false, ltb, List, [], ◌∷◌, ◌++◌, map, length, get_or, take as front, Some, None, Ok, Err, Result, MatchResult, Vec, sym, refl, ap, ◌∙◌}
 use Rattle.std.proofs.lemmas.List.{length-map, take-map}
 use Rattle.std.proofs.lemmas.Bool.{cond-true, cond-false}
 use Rattle.faults.specs.declared.Fault.{Fault}
@@ -12,10 +12,10 @@ use Rattle.problem.specs.declared.sort.Kind.{Kind}
 use Rattle.problem.specs.declared.sort.Misfit.{Misfit}
 use Rattle.problem.specs.Sorts.{placed}
 use Rattle.problem.specs.Declarations.{atoms_of, relations_of}
-use Rattle.problem.specs.Drafts.{nodes_of, sorts_of}
+use Rattle.problem.specs.Drafts.{nodes_of, sorts_of, Put, NotPut, Kept}
 use Rattle.formulas.specs.declared.sketch.Sketch.{Sketch}
 use Rattle.formulas.specs.Bodies.{Body, body, name_of_variable}
-use Rattle.tokens.specs.Outcomes.{changed, unfit}
+use Rattle.tokens.specs.Outcomes.{changes, changed, unfit}
 use Rattle.formulas.specs.Outcomes.{arities_of, names_of, misfitting, placing, putting, meant, as_variable, as_relation, resolved, scoped, bound, unbound}
 
 -- a function of two, from equal parts
@@ -93,3 +93,18 @@ put_fits k n p m i s b a l e h g =
     (λ j. changed (h j) (record { atoms = g.atoms j; relations = g.relations j; horizon = g.horizon j; nodes = g.nodes j; sorts = g.sorts j; scope = g.scope j; parts = g.parts j }))
     ∙ ap (λ r. placing r n p b) (sym e)
     ∙ ap (λ i. placing (placed (arities_of b) b.sorts k i n) n p b) l
+
+-- what comes of a node, as the draft answers
+pub put_told : (k : Kind) (n : Node) (p m : ℕ) (r : Result ℕ Misfit) (q : Result ℕ Fault) (s t : Sketch) →
+    MatchResult r (λ i. q ≡ Ok i) (λ u. q ≡ Err (misfitting u p)) →
+    MatchResult r (λ i. Put k m n s.draft t.draft i) (λ u. NotPut k m n s.draft t.draft u) →
+    Kept s.draft t.draft → m ≡ s.scope.len → t.scope.items ≡ s.scope.items → t.parts ≡ s.parts → changes q (body t) ≡ putting k n p (body s)
+unfolding body
+put_told k n p m (Ok i) q s t h g kept e c d =
+    let bound : m ≡ length (map name_of_variable s.scope.items) = e ∙ sym (mapped_len name_of_variable s.scope) in
+    ap (λ r. changes r (body t)) h
+    ∙ put_fits k n p m i g.sort (body s) (body t) bound g.fits g.index
+    (record { atoms = kept.atoms; relations = kept.relations; horizon = kept.horizon; nodes = g.nodes; sorts = g.sorts; scope = ap (map name_of_variable) c; parts = d })
+put_told k n p m (Err u) q s t h g kept e c d =
+    let bound : m ≡ length (map name_of_variable s.scope.items) = e ∙ sym (mapped_len name_of_variable s.scope) in
+    ap (λ r. changes r (body t)) h ∙ put_unfit k n p m u (misfitting u p) (body s) bound g.unfit refl

@@ -1,4 +1,6 @@
-ghost use Rattle.std.specs.Prelude.{◌≡◌, ℕ, nat_lt};
+ghost use Rattle.std.specs.Prelude.{◌≡◌, ℕ, ◌||◌, map, is_some, nat_lt};
+ghost use Rattle.names.specs.Lookups.{index_of};
+ghost use Rattle.problem.specs.Declarations.{atoms_of, relations_of, declared_name};
 ghost use Rattle.names.specs.Names.{spelling};
 ghost use Rattle.problem.specs.Sorts.{most_variables};
 ghost use Rattle.formulas.specs.Bodies.{body, begun};
@@ -9,7 +11,7 @@ use super::super::wish::{Wish, ask};
 use super::{Scope, Sketch, Variable};
 use faults::Fault;
 use names::{Name, Named, lookup};
-use problem::{Constant, Draft, Kind, MOST_PARTS, MOST_VARIABLES, Misfit, Node};
+use problem::{Constant, Declarations, Draft, Kind, MOST_PARTS, MOST_VARIABLES, Misfit, Node};
 use std::alloc::{AllocError, Global};
 
 impl Named for Variable {
@@ -82,10 +84,9 @@ impl Sketch {
         ensures { changes result (body self.new) ≡ putting kind node place (body self.old) }
     {
         let bound = self.scope.len();
-        match self.draft.put(kind, node, bound) {
-            Ok(index) => Ok(index),
-            Err(misfit) => Err(fault_of(misfit, place)),
-        }
+        self.draft
+            .put(kind, node, bound)
+            .map_err(|misfit| fault_of(misfit, place))
     }
 
     // The arity of a node.
@@ -107,13 +108,11 @@ impl Sketch {
             });
         }
         let relations = self.draft.signature().declared().relations();
-        match lookup(relations, name.as_bytes()) {
-            Some(relation) => Ok(Meant {
-                node: Node::Relation(relation),
-                arity: relations[relation].arity().number(),
-            }),
-            None => Err(Fault::NameUnknown { place }),
-        }
+        let relation = lookup(relations, name.as_bytes()).ok_or(Fault::NameUnknown { place })?;
+        Ok(Meant {
+            node: Node::Relation(relation),
+            arity: relations[relation].arity().number(),
+        })
     }
 
     // Puts a name or constant, which is a whole expression; its arity is judged before the part is counted.
@@ -167,14 +166,8 @@ impl Sketch {
     fn knows(&self, name: &[u8]) -> bool
         ensures { result ≡ known name.now (body self.now) }
     {
-        let declared = self.draft.signature().declared();
-        if lookup(declared.atoms(), name).is_some() {
-            return true;
-        }
-        if lookup(declared.relations(), name).is_some() {
-            return true;
-        }
-        lookup(self.scope.as_slice(), name).is_some()
+        declares(self.draft.signature().declared(), name)
+            || lookup(self.scope.as_slice(), name).is_some()
     }
 
     // Whether a name may be bound: it is not known, and there may be one variable more.
@@ -203,6 +196,13 @@ impl Sketch {
     {
         let _ = self.scope.pop();
     }
+}
+
+// Whether a name is that of an atom or a relation.
+fn declares(declared: &Declarations, name: &[u8]) -> bool
+    ensures { result ≡ (is_some (index_of name.now (atoms_of declared.now)) || is_some (index_of name.now (map declared_name (relations_of declared.now)))) }
+{
+    lookup(declared.atoms(), name).is_some() || lookup(declared.relations(), name).is_some()
 }
 
 // Whether there may be one variable more.

@@ -1,22 +1,10 @@
-use Rattle.std.proofs.Common.{sym, refl, ◌∙◌}
-use Rattle.formulas.specs.Bodies.{body, name_of_variable}
-use Rattle.formulas.proofs.Steps.{mapped_len, put_fits, put_unfit}
+use Rattle.std.proofs.Common.{refl, rules}
+use Rattle.std.proofs.lemmas.Result.{MatchResult-weaker}
+use Rattle.formulas.proofs.Steps.{put_told}
 use Rattle.formulas.proofs.sketch.Sketch.put.Goals as goal
 
-pub returns-in-Ok : goal.returns-in-Ok
-unfolding body
-returns-in-Ok c =
-    let s = c.args.self.now in
-    let p = c.in-Ok.ensures.value in
-    let k = c.in-Ok.ensures.kept in
-    put_fits c.args.kind c.args.node c.args.place c.len-bound.result c.in-Ok.index p.sort (body s) _
-    (c.len-bound.ensures ∙ sym (mapped_len name_of_variable s.scope)) p.fits p.index
-    (record { atoms = k.atoms; relations = k.relations; horizon = k.horizon; nodes = p.nodes; sorts = p.sorts; scope = refl; parts = refl })
-
-pub returns-in-Err : goal.returns-in-Err
-unfolding body
-returns-in-Err c =
-    let s = c.args.self.now in
-    let p = c.in-Err.ensures.value in
-    put_unfit c.args.kind c.args.node c.args.place c.len-bound.result c.in-Err.misfit c.fault_of.result (body s)
-    (c.len-bound.ensures ∙ sym (mapped_len name_of_variable s.scope)) p.unfit c.fault_of.ensures
+pub returns : goal.returns
+returns c =
+    put_told c.args.kind c.args.node c.args.place c.len-bound.result c.put.result c.map_err.result c.args.self.now _
+    (MatchResult-weaker c.put.result c.map_err.ensures.cases (λ i h. h) (λ u h. search rules))
+    c.put.ensures.value c.put.ensures.kept c.len-bound.ensures refl refl
