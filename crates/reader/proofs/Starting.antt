@@ -1,5 +1,5 @@
 -- What is known at the start of a text, and at the start and the end of its formula.
-use Rattle.std.proofs.Common.{◌≡◌, ℕ, List, [], length, map, reverse, Ok, Err, Result, IfOk, refl, ap, ◌∙◌, sym}
+use Rattle.std.proofs.Common.{◌≡◌, ℕ, [], length, map, reverse, Ok, Err, Result, IfOk, refl, sym}
 use Rattle.std.proofs.lemmas.List.{nil_from_length}
 use Rattle.faults.specs.declared.Fault.{Fault}
 use Rattle.problem.specs.declared.declarations.Declarations.{Declarations}

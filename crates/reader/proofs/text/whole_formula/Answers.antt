@@ -1,4 +1,4 @@
-use Rattle.std.proofs.Common.{sym, ap, ◌∙◌, refl, length}
+use Rattle.std.proofs.Common.{sym, ap, ◌∙◌, length}
 use Rattle.tokens.specs.Cursors.{cursor}
 use Rattle.formulas.specs.Bodies.{Open, body}
 use Rattle.formulas.specs.Formulas.{formula, levels}
