@@ -41,6 +41,7 @@ fn pairs_of(text: &[u8], heap: Global) -> Result<Option<Vec<u8>>, AllocError>
     requires { length text.now % 2 ≡ 0 }
     ensures { IfOk result (λ o. MatchOption o ((bytes : List ℕ) → IsHex text.now bytes → ⊥) (λ v. IsHex text.now v.items)) }
 {
+    // Tried: `chunks_exact`, for which no proof closed that says at which place of the text a pair stands.
     let mut bytes = Vec::new(heap);
     for i in 0..text.len() / 2 {
         match byte(text[2 * i], text[2 * i + 1]) {

@@ -36,6 +36,7 @@ impl<T: Copy> Kept<T> {
     pub(crate) fn put(&mut self, node: usize, item: T)
         ensures { self.new.items ≡ slice_set self.old.items node (Some item) }
     {
+        // By index: after `get_mut` nothing is known of what was written through it.
         if node < self.items.len() {
             self.items[node] = Some(item);
         }

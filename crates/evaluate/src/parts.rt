@@ -69,6 +69,7 @@ pub(crate) fn atom_of(variables: &[usize; 4], variable: usize) -> usize
 pub(crate) fn bound(variables: &[usize; 4], variable: usize, atom: usize) -> [usize; 4]
     ensures { result ≡ slice_set variables.now variable atom }
 {
+    // By index: after `get_mut` nothing is known of what was written through it.
     let mut inner = *variables;
     if variable < inner.len() {
         inner[variable] = atom;

@@ -62,6 +62,7 @@ impl Told<'_> {
     fn opposed_before(&self, state: State, place: usize) -> bool
         ensures { Decides result (OpposedBefore self.now.table.now state.0 place) }
     {
+        // Tried: `any`; the search did not prove what its closure says of a state.
         let value = self.table.value(place, state);
         'earlier: for s in 0..state.0 {
             if opposed(self.table.value(place, State(s)), value) {

@@ -73,6 +73,7 @@ impl Told<'_> {
     fn told_once(&self, place: usize) -> Value
         ensures { ToldOnce self.now.table.now place result }
     {
+        // Tried: `map` and `find`; the search did not prove what the first value found means.
         'sought: for s in 0..self.table.shape().states() {
             match self.table.value(place, State(s)) {
                 Value::Open => (),

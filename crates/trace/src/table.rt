@@ -20,7 +20,7 @@ pub fn blank() -> Table
     filled(false)
 }
 
-// The table in which all is held, or nothing.
+// The table in which all is held, or nothing: tried in `blank` alone, and the search does not prove facts of eight literal rows.
 fn filled(value: bool) -> Table
     ensures nothing { value ≡ false → (s p : ℕ) → holds result s p ≡ false }
     ensures rows { value ≡ false → BlankFrom 0 result }
