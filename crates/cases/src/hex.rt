@@ -20,10 +20,7 @@ fn digit(b: u8) -> Option<u8>
 fn byte(high: u8, low: u8) -> Option<u8>
     ensures { result ≡ both (digit_of high) (digit_of low) }
 {
-    match (digit(high), digit(low)) {
-        (Some(x), Some(y)) => Some(x * 16 + y),
-        _ => None,
-    }
+    Some(digit(high)? * 16 + digit(low)?)
 }
 
 // The bytes of a text in hexadecimal, two digits each; none where it is no such text.
@@ -41,13 +38,14 @@ fn pairs_of(text: &[u8], heap: Global) -> Result<Option<Vec<u8>>, AllocError>
     requires { length text.now % 2 ≡ 0 }
     ensures { IfOk result (λ o. MatchOption o ((bytes : List ℕ) → IsHex text.now bytes → ⊥) (λ v. IsHex text.now v.items)) }
 {
-    // Tried: `chunks_exact`, for which no proof closed that says at which place of the text a pair stands.
     let mut bytes = Vec::new(heap);
-    for i in 0..text.len() / 2 {
-        match byte(text[2 * i], text[2 * i + 1]) {
+    let mut rest = text;
+    'pairs: while let [high, low, after @ ..] = rest {
+        match byte(*high, *low) {
             Some(b) => bytes.push(b)?,
             None => return Ok(None),
         }
+        rest = after;
     }
     Ok(Some(bytes))
 }

@@ -8,6 +8,10 @@ use Rattle.problem.specs.Problems.{relations_in, sizes_in}
 use Rattle.places.specs.declared.numbers.Tuple.{Tuple}
 use Rattle.places.specs.Places.{place_count, place_of_tuple}
 use Rattle.places.specs.Asked.{fixed, relation_at, FixedAt, BoundAt}
+use Rattle.table.specs.declared.table.Table.{Table}
+use Rattle.table.specs.Tables.{value_in}
+use Rattle.known.specs.Known.{Opposed}
+use Rattle.known.specs.States.{AgainstBounds}
 use Rattle.places.proofs.Numbering.{inside, within, place_inv, unique}
 
 place_inside : (ss : List ℕ) (u : Tuple) (q : ℕ) → place_of_tuple ss u ≡ Some q → q < place_count ss
@@ -37,3 +41,11 @@ fixed_one p q v w a b =
 pub fixed_decided : (p : Problem) (q : ℕ) (r : Option Bool) → MatchOption r (place_count (sizes_in p) ≤ q) (λ b. FixedAt p q b) → Decides (unwrap_or r false) (FixedAt p q true)
 fixed_decided p q None h = (λ e. absurd (false≢true e), λ f. absurd (omega (arith, fixed_inside p q true f, h)))
 fixed_decided p q (Some v) h = (λ e. subst (λ b. FixedAt p q b) e h, λ f. sym (fixed_one p q true v f h))
+
+-- whether what is told of a place is opposed to its bounds, by a test of the bounds that there are
+pub against_decided : {R : Value → Type 0} (p : Problem) (t : Table) (s q : ℕ) (v : Value) (o : Option Value) (r : Bool) → v ≡ value_in t s q → MatchOption o (place_count (sizes_in p) ≤ q) (λ b. BoundAt p q b) → MatchOption o (r ≡ false) R → ((b : Value) → R b → Decides r (Opposed b v)) → Decides r (AgainstBounds p t s q)
+against_decided p t s q v None r e h d test = (λ y. absurd (false≢true (sym d ∙ y)), λ a. absurd (omega (arith, bound_inside p q a.bound a.is, h)))
+against_decided p t s q v (Some b) r e h d test = (
+  (λ y. record { bound = b; is = h; opposed = subst (λ x. Opposed b x) e ((test b d).0 y) }),
+  λ a. (test b d).1 (subst (λ x. Opposed b x) (sym e) (subst (λ x. Opposed x (value_in t s q)) (bound_one p q a.bound b a.is h) a.opposed)),
+)

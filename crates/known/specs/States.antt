@@ -1,5 +1,5 @@
 -- What the states of a table show of a problem, and what is known in each, for src/clash and src/knowing. Assumes nothing.
-use Rattle.std.specs.Prelude.{◌≡◌, ◌≢◌, ℕ, ◌<◌, ◌⊎◌, true}
+use Rattle.std.specs.Prelude.{◌≡◌, ◌≢◌, ℕ, ◌<◌, ◌≤◌, ◌⊎◌, true}
 use Rattle.lasso.specs.declared.value.Value.{Value}
 use Rattle.lasso.specs.declared.value.Value.TheVariants.{Open}
 use Rattle.lasso.specs.Lassos.{state_at}
@@ -17,6 +17,13 @@ pub record AgainstBounds (p : Problem) (t : Table) (s place : ℕ) : Type 0 wher
   pub bound : Value
   pub is : BoundAt p place bound
   pub opposed : Opposed bound (value_in t s place)
+
+-- what is told of a place in some state from lo on and below hi is opposed to a value
+pub record OpposedIn (t : Table) (lo hi place : ℕ) (v : Value) : Type 0 where
+  pub state : ℕ
+  pub low : lo ≤ state
+  pub high : state < hi
+  pub opposed : Opposed (value_in t state place) v
 
 -- what is told of a place in a state is opposed to what is told of it in an earlier one
 pub record OpposedBefore (t : Table) (s place : ℕ) : Type 0 where

@@ -1,11 +1,12 @@
 ghost use Rattle.std.specs.Prelude.{true, Decides, MatchOption};
 ghost use Rattle.places.specs.Asked.{FixedAt};
 ghost use Rattle.known.specs.Known.{Opposed};
-ghost use Rattle.known.specs.States.{AgainstBounds, OpposedBefore, YesAndNo, Shows, NoneBefore, FirstShown};
+ghost use Rattle.known.specs.States.{AgainstBounds, OpposedBefore, OpposedIn, YesAndNo, Shows, NoneBefore, FirstShown};
 
 use super::told::Told;
 use lasso::{Instant, State, Value};
 use places::{bounds, is_fixed};
+use std::ops::Range;
 
 impl Told<'_> {
     // The first contradiction: the earliest instant at which one shows, and there the lowest place.
@@ -37,10 +38,8 @@ impl Told<'_> {
     fn against_bounds(&self, state: State, place: usize) -> bool
         ensures { Decides result (AgainstBounds self.now.problem.now self.now.table.now state.0 place) }
     {
-        match bounds(self.problem, place) {
-            Some(bound) => opposed(bound, self.table.value(place, state)),
-            None => false,
-        }
+        let told = self.table.value(place, state);
+        bounds(self.problem, place).is_some_and(|bound| opposed(bound, told))
     }
 
     // Whether a fixed place is told yes in one state and no in another, up to a state.
@@ -59,17 +58,18 @@ impl Told<'_> {
     }
 
     // Whether what is told of a place in a state is opposed to what is told of it in an earlier one.
+    #[tactic(auto, using(crate::proofs::Earlier::before_decided))]
     fn opposed_before(&self, state: State, place: usize) -> bool
         ensures { Decides result (OpposedBefore self.now.table.now state.0 place) }
     {
-        // Tried: `any`; the search did not prove what its closure says of a state.
-        let value = self.table.value(place, state);
-        'earlier: for s in 0..state.0 {
-            if opposed(self.table.value(place, State(s)), value) {
-                return true;
-            }
-        }
-        false
+        self.opposed_in(0..state.0, place, self.table.value(place, state))
+    }
+
+    // Whether what is told of a place in some state of a range is opposed to a value.
+    fn opposed_in(&self, mut states: Range<usize>, place: usize, value: Value) -> bool
+        ensures { Decides result (OpposedIn self.now.table.now states.start states.end place value) }
+    {
+        states.any(|s| opposed(self.table.value(place, State(s)), value))
     }
 }
 

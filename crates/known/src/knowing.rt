@@ -73,13 +73,9 @@ impl Told<'_> {
     fn told_once(&self, place: usize) -> Value
         ensures { ToldOnce self.now.table.now place result }
     {
-        // Tried: `map` and `find`; the search did not prove what the first value found means.
-        'sought: for s in 0..self.table.shape().states() {
-            match self.table.value(place, State(s)) {
-                Value::Open => (),
-                value => return value,
-            }
-        }
-        Value::Open
+        (0..self.table.shape().states())
+            .map(|s| self.table.value(place, State(s)))
+            .find(|value| *value != Value::Open)
+            .unwrap_or(Value::Open)
     }
 }

@@ -53,12 +53,7 @@ fn places_before(problem: &Problem, relation: usize) -> usize
     ensures value { result ≡ before (sizes_in problem.now) relation }
     ensures few { result ≤ 768 }
 {
-    // Tried: `map` and `sum`; no proof closed that the sum of what a problem answers fits.
-    let mut total = 0;
-    'total: for i in 0..relation {
-        total += problem.size(i);
-    }
-    total
+    (0..relation).map(|i| problem.size(i)).sum()
 }
 
 // The places of all relations.
