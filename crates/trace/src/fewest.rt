@@ -13,7 +13,7 @@ pub(crate) struct Lasso<'a> {
     ghost few: { shape.states ≤ most_states },
 }
 
-// Its loops are no chains: tried, and the search does not prove `all` over a range where the closure says a fact of a lasso.
+// Loops, and not `all`: there each closure has to state what it needs and what it gives, in more lines than the loop.
 impl<'a> Lasso<'a> {
     // The row of the state at an instant.
     fn row(&self, instant: Instant) -> &[bool]
