@@ -183,13 +183,11 @@ fn sign_at<'a>(s: &'a [u8], place: usize) -> Result<(Token<'a>, usize), Fault>
     ensures inside { IfOk result (λ t. t.1 ≤ length s.now) }
     ensures brief { IfOk result (λ t. digits t.0 ≤ 3) }
 {
-    if s[0] == b'-' && s.len() > 1 && s[1] == b'>' {
+    if let [b'-', b'>', ..] = s {
         return Ok((Token::Sign(Sign::Operator(Operator::Product)), 2));
     }
-    match sign_of(s[0]) {
-        Some(sign) => Ok((Token::Sign(sign), 1)),
-        None => Err(Fault::NoToken { place }),
-    }
+    let sign = sign_of(s[0]).ok_or(Fault::NoToken { place })?;
+    Ok((Token::Sign(sign), 1))
 }
 
 // The token at the front of some bytes, and how long it is.

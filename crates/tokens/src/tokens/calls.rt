@@ -180,7 +180,7 @@ fn mark_of(token: Token<'_>) -> Option<Mark>
     Some(mark)
 }
 
-// The value of a few digits; that no sum is too large depends on how far the loop has come, which a fold cannot say.
+// The value of a few digits; that no sum is too large depends on how far the loop has come, which the closure of a fold cannot say.
 fn value(digits: &[u8]) -> usize
     requires { length digits.now ≤ 3 }
     ensures { result ≡ value_of digits.now }
