@@ -30,11 +30,8 @@ pub fn by_log(problem: &Problem, bytes: &[u8]) -> Result<Value, NoVerdict>
     ensures { ByBytes problem.now bytes.now result }
 {
     let mut log = Log::fresh();
-    // Tried: `map_err` and `?`, after which the search no longer knows what the log holds.
-    match log.read(bytes) {
-        Ok(()) => by_source(problem, &log),
-        Err(fault) => Err(NoVerdict::LogRefused(fault)),
-    }
+    log.read(bytes).map_err(NoVerdict::LogRefused)?;
+    by_source(problem, &log)
 }
 
 // The verdict by a source, or why the source does not fit the problem.
