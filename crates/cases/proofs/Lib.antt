@@ -1,1 +1,2 @@
 pub mod Results
+pub mod Pairs
