@@ -1,11 +1,11 @@
 ghost use Rattle.std.specs.Prelude.{◌≡◌, ◌≤◌, [], ◌∷◌, ◌++◌, map, length, IfOk, is_ok, if◌then◌else◌, nat_lt};
 ghost use Rattle.names.specs.Names.{spelling};
 ghost use Rattle.problem.specs.Relations.{atom_name, relation_name, declared_of};
-ghost use Rattle.problem.specs.Declarations.{atoms_of, relations_of, declared_name};
+ghost use Rattle.problem.specs.Declarations.{atoms_of, relations_of, declared_name, declares};
 
 use super::super::relation::{Atom, Relation};
 use super::{Declarations, MOST_ATOMS, MOST_RELATIONS, NoRoom};
-use names::Name;
+use names::{Name, lookup};
 use std::alloc::{AllocError, Global};
 
 impl Declarations {
@@ -78,5 +78,13 @@ impl Declarations {
         ensures few { length result.now ≤ 12 }
     {
         self.relations.as_slice()
+    }
+
+    // Whether a name is that of an atom or of a relation.
+    pub fn declares(&self, name: Name) -> bool
+        ensures { result ≡ declares (atoms_of self.now) (relations_of self.now) (spelling name) }
+    {
+        let name = name.as_bytes();
+        lookup(self.atoms(), name).is_some() || lookup(self.relations(), name).is_some()
     }
 }

@@ -8,5 +8,5 @@ use Rattle.problem.proofs.draft.calls.add.Goals as goal
 pub invariant_of-draft-clause-judged : goal.invariant_of-draft-clause-judged
 invariant_of-draft-clause-judged c =
     let d = c.args.draft.now in
-    let J = judged_parts (arities_of d) d.parts.items c.args.part d.judged c.requires.judged in
+    let J = judged_parts (arities_of d) d.parts.items c.args.part d.judged c.requires.fits.judged in
     subst (λ (ps : List Part). Judged (arities_of d) (map part_node ps) (map part_sort ps)) (sym c.push_reserved.ensures.items) J
