@@ -1,5 +1,5 @@
 -- What each node is found to be, one node more at a time.
-use Rattle.std.proofs.Common.{◌≡◌, ℕ, zero, suc, ◌+◌, ◌<◌, ◌≤◌, Bool, true, false, ◌&&◌, leb, List, [], ◌∷◌, ◌++◌, length, map, take, IfOk, Ok, Err, Result, sym, refl, ap, ◌∙◌, subst, inl, inr, arith, eq-eqb, leb-true, lt-ltb}
+use Rattle.std.proofs.Common.{◌≡◌, ℕ, zero, suc, ◌+◌, ◌<◌, ◌≤◌, Bool, true, false, ◌&&◌, leb, List, [], ◌∷◌, ◌++◌, length, map, take, Ok, Err, Result, sym, refl, ap, ◌∙◌, subst, inl, inr, arith, eq-eqb, leb-true, lt-ltb}
 use Rattle.std.proofs.lemmas.Bool.{cases_lt, and_parts}
 use Rattle.std.proofs.lemmas.List.{take-append-le, take_at, get_or_append_left, get_or_push, length_push, length-map, map_push}
 use Rattle.std.specs.List.{slice_get}
@@ -13,8 +13,8 @@ use Rattle.problem.specs.declared.sort.Kind.TheVariants as kind
 use Rattle.problem.specs.declared.sort.Misfit.{Misfit}
 use Rattle.problem.specs.declared.part.Part.{Part}
 use Rattle.problem.specs.declared.draft.Draft.{Draft}
-use Rattle.problem.specs.Sorts.{part_node, part_sort, judge, found, node_at, sort_at, no_sort, Judged, arity_at, sort_arity, sort_bound, of_kind, arity_of_kind, arity_found, wanted, most_parts}
-use Rattle.problem.specs.Drafts.{sorts_of, arities_of, Placed}
+use Rattle.problem.specs.Sorts.{part_node, part_sort, judge, found, node_at, sort_at, no_sort, Judged, arity_at, sort_arity, sort_bound, of_kind, arity_of_kind, arity_found, wanted}
+use Rattle.problem.specs.Drafts.{sorts_of, arities_of}
 use Rattle.problem.proofs.Arities.{Sized, put_sized}
 use Rattle.problem.proofs.Inversions.{fits}
 
@@ -71,12 +71,6 @@ kind_arity kind.Formula (sort.Expression a b) e z = absurd (cc)
 kind_arity kind.Formula (sort.Formula p b) e z = refl
 kind_arity kind.Expression (sort.Expression a b) e z = lt-ltb 0 a (z refl)
 kind_arity kind.Expression (sort.Formula p b) e z = absurd (cc)
-
-pub fits_made : (k : Kind) (b : ℕ) (n : Node) (d : Draft) (r : Result Sort Misfit) → length (sorts_of d) < most_parts → r ≡ wanted k b (judge (arities_of d) (sorts_of d) n) → IfOk r (λ s. Placed k b n d s)
-fits_made k b n d (Ok s) h e =
-    let w = wanted_inv k b (judge (arities_of d) (sorts_of d) n) s (sym e) in
-    record { room = h; judged = w.judged; is_of_kind = w.is_of_kind; few = w.few }
-fits_made k b n d (Err m) h e = tt
 
 -- what a node at the end of a draft is found to be has an arity of the kind that is wanted
 wanted_arity : (k : Kind) (b : ℕ) (n : Node) (d : Draft) (r : Result Sort Misfit) → wanted k b (judge (arities_of d) (sorts_of d) n) ≡ r → arity_found k r ≡ true

@@ -1,6 +1,5 @@
 -- What stands at an index of the list of arities.
-use Rattle.std.proofs.Common.{◌≡◌, ℕ, zero, suc, ◌<◌, ◌≤◌, List, [], ◌∷◌, map, length, get_or, Some, None, Option, refl, sym, ap, ◌∙◌, arith}
-use Rattle.std.specs.Option.{MatchOption}
+use Rattle.std.proofs.Common.{◌≡◌, ℕ, zero, suc, ◌<◌, ◌≤◌, List, [], ◌∷◌, map, length, get_or, Some, None, refl, sym, ap, ◌∙◌, arith}
 use Rattle.std.specs.List.{slice_get}
 use Rattle.problem.specs.declared.relation.Relation.{Relation}
 use Rattle.problem.specs.Relations.{declared_of, arity_number}
@@ -33,8 +32,3 @@ arity_got rs i r h e = nth_arities rs i r h ∙ ap (λ (x : Relation). Some (ari
 
 pub size_got : (n : ℕ) (rs : List Relation) (i : ℕ) (r : Relation) → i < length rs → r ≡ get_or rs i r → get_or (sizes n (map declared_of rs)) i 0 ≡ size_of n r.arity
 size_got n rs i r h e = size_is n rs i r h ∙ ap (λ (x : Relation). size_of n x.arity) (sym e)
-
--- what is shown of a default and of a function of what is there is shown of `map_or`
-pub matched : {T : Type 0} (o : Option T) (P : Type 0) (Q : T → Type 0) (G : Type 0) → MatchOption o P Q → (o ≡ None → P → G) → ((x : T) → o ≡ Some x → Q x → G) → G
-matched None P Q G m n s = n refl m
-matched (Some x) P Q G m n s = s x refl m

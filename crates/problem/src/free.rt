@@ -32,6 +32,7 @@ impl Scope {
     }
 
     // How many tuples the relation at an index may have, 0 beyond the end.
+    #[tactic(auto, using(crate::proofs::Nths::size_got, crate::proofs::Nths::no_size))]
     pub(crate) fn size_at(self, relations: &[Relation], at: usize) -> usize
         ensures value { result ≡ slice_index (sizes self.atoms (map declared_of relations.now)) at }
         ensures few { result ≤ 64 }

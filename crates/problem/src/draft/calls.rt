@@ -82,7 +82,7 @@ impl Draft {
 }
 
 // What a node at the end would be.
-#[tactic(auto, using(crate::proofs::Judging::fits_made, crate::proofs::Judging::arity_made))]
+#[tactic(auto, using(crate::proofs::Judging::arity_made))]
 fn placed(draft: &Draft, kind: Kind, node: Node, bound: usize) -> Result<Sort, Misfit>
     ensures value { result ≡ placed_of (arities_of draft.now) (sorts_of draft.now) kind bound node }
     ensures fits { IfOk result (λ s. Placed kind bound node draft.now s) }

@@ -7,6 +7,7 @@ use Rattle.problem.proofs.Bounds.{length_bounds, get_d_bounds}
 use Rattle.problem.proofs.Made.{made_at}
 use Rattle.problem.proofs.relation.calls.bounds_of.Goals as goal
 
+-- the search makes no induction over the calls of a closure that holds both sets, also not with these three lemmas by `using`
 pub returns-clause-value : goal.returns-clause-value
 returns-clause-value c =
     let ls = c.args.lower.now.held in
