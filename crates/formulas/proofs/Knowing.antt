@@ -16,10 +16,6 @@ use Rattle.formulas.proofs.Steps.{both}
 pub through : {Y : Type 0} (f : Declarations → Y) (d : Draft) (s : Signature) (e : Declarations) (y : Y) → y ≡ f e → e ≡ s.declared → s ≡ d.signature → y ≡ f d.signature.declared
 through f d s e y p q r = p ∙ ap f (q ∙ ap (λ (t : Signature). t.declared) r)
 
--- whether a name was found, in a list that equals the one looked through
-pub looked : (x : List ℕ) (t : Bool) (o : Option ℕ) (ys zs : List (List ℕ)) → t ≡ is_some o → o ≡ index_of x ys → ys ≡ zs → t ≡ is_some (index_of x zs)
-looked x t o ys zs e f g = e ∙ ap is_some (f ∙ ap (index_of x) g)
-
 -- known, from what is declared and what is in scope
 pub known_from : (x : List ℕ) (b : Body) (d r : Bool) → d ≡ (is_some (index_of x b.atoms) || is_some (index_of x (names_of b))) → r ≡ is_some (index_of x b.scope) → (d || r) ≡ known x b
 known_from x b d r e f = both (λ (s t : Bool). s || t) e f ∙ regroup (is_some (index_of x b.atoms)) (is_some (index_of x (names_of b))) (is_some (index_of x b.scope))
