@@ -1,5 +1,5 @@
 -- The atoms and the relations that are declared, for src/declarations. Assumes nothing.
-use Rattle.std.specs.Prelude.{◌≡◌, ℕ, Bool, ◌||◌, List, [], ◌∷◌, map, is_some, vec_items}
+use Rattle.std.specs.Prelude.{ℕ, Bool, ◌||◌, List, map, is_some, vec_items}
 use Rattle.names.specs.Lookups.{index_of}
 use Rattle.problem.specs.declared.declarations.Declarations.{Declarations}
 use Rattle.problem.specs.Relations.{Declared, atom_name, declared_of, arity_number}
@@ -25,8 +25,3 @@ declared_arity r = arity_number r.arity
 -- the arities of the relations
 abbrev pub arities : List Declared → List ℕ
 arities rs = map declared_arity rs
-
--- the atom `a` and no relation
-pub record OneAtom (d : Declarations) : Type 0 where
-  pub atoms : atoms_of d ≡ (97 ∷ []) ∷ []
-  pub relations : relations_of d ≡ []

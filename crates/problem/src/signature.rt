@@ -7,8 +7,6 @@ pub use super::free::Unfit;
 
 mod calls;
 
-pub(crate) use calls::one_state;
-
 // The most states of a horizon.
 pub const MOST_HORIZON: usize = 8;
 

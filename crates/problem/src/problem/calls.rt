@@ -8,7 +8,6 @@ ghost use Rattle.problem.specs.Drafts.{sorts_of};
 ghost use Rattle.problem.specs.Problems.{atoms_in, relations_in, sizes_in, horizon_of, nodes_in, sorts_in};
 
 use super::super::draft::Draft;
-use super::super::free::Scope;
 use super::super::part::Part;
 use super::super::relation::{Atom, Relation};
 use super::super::sort::Sort;
@@ -52,7 +51,7 @@ impl Problem {
         ensures value { result ≡ slice_index (sizes_in self.now) relation }
         ensures few { result ≤ 64 }
     {
-        Scope::new(self.atoms().len(), self.horizon()).size_at(self.relations(), relation)
+        self.draft.signature().size(relation)
     }
 
     // The most states of a trace that is searched for, 1 to 8.
@@ -95,6 +94,6 @@ impl Problem {
         ensures value { result ≡ free_places (length (atoms_in self.now)) (relations_in self.now) (horizon_of self.now) }
         ensures few { result ≤ 256 }
     {
-        Scope::new(self.atoms().len(), self.horizon()).free_places(self.relations())
+        self.draft.signature().free_places()
     }
 }

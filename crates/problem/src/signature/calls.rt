@@ -1,6 +1,6 @@
-ghost use Rattle.std.specs.Prelude.{◌≡◌, ◌≤◌, Some, None, MatchResult};
-ghost use Rattle.problem.specs.Declarations.{atoms_of, relations_of, OneAtom};
-ghost use Rattle.problem.specs.Free.{fitness as fitness_of, free_places};
+ghost use Rattle.std.specs.Prelude.{◌≡◌, ◌≤◌, Some, None, MatchResult, length, slice_index};
+ghost use Rattle.problem.specs.Declarations.{atoms_of, relations_of};
+ghost use Rattle.problem.specs.Free.{fitness as fitness_of, sizes, free_places};
 ghost use Rattle.problem.specs.Signatures.{Fits};
 
 use super::super::declarations::Declarations;
@@ -31,6 +31,30 @@ impl Signature {
     {
         self.horizon
     }
+
+    // How many tuples the relation at an index may have, 0 beyond the last.
+    pub fn size(&self, relation: usize) -> usize
+        ensures value { result ≡ slice_index (sizes (length (atoms_of self.now.declared)) (relations_of self.now.declared)) relation }
+        ensures few { result ≤ 64 }
+    {
+        self.scope().size_at(self.declared.relations(), relation)
+    }
+
+    // The free fixed places, and the free mutable ones for each state of the horizon: at most 256.
+    pub fn free_places(&self) -> usize
+        ensures value { result ≡ free_places (length (atoms_of self.now.declared)) (relations_of self.now.declared) self.now.horizon }
+        ensures few { result ≤ 256 }
+    {
+        self.scope().free_places(self.declared.relations())
+    }
+
+    // How many atoms and states there are.
+    fn scope(&self) -> Scope
+        ensures atoms { result.atoms ≡ length (atoms_of self.now.declared) }
+        ensures horizon { result.horizon ≡ self.now.horizon }
+    {
+        Scope::new(self.declared.atom_count(), self.horizon)
+    }
 }
 
 // Whether declarations and a horizon go together, or why not.
@@ -45,16 +69,4 @@ fn fitness(declared: &Declarations, horizon: usize) -> Result<(), Unfit>
         return Err(Unfit::FreePlaces);
     }
     Ok(())
-}
-
-// The declarations with a horizon of one state.
-pub(crate) fn one_state(declared: Declarations) -> Signature
-    requires { OneAtom declared }
-    ensures declared { result.declared ≡ declared }
-    ensures horizon { result.horizon ≡ 1 }
-{
-    Signature {
-        declared,
-        horizon: 1,
-    }
 }
