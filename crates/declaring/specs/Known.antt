@@ -2,14 +2,14 @@
 use Rattle.std.specs.Prelude.{ℕ, Bool, cond, List, [], ◌∷◌, ◌++◌, length, Some, None, Ok, Err, Option, Result, nat_lt}
 use Rattle.faults.specs.declared.Fault.{Fault}
 use Rattle.faults.specs.declared.Fault.TheVariants.{NameKnown, OverLimit, TooManyFreePlaces, LowerOutsideUpper}
-use Rattle.problem.specs.declared.declarations.Declarations.{Declarations}
-use Rattle.problem.specs.declared.relation.Arity.{Arity}
-use Rattle.problem.specs.declared.free.Unfit.{Unfit}
-use Rattle.problem.specs.declared.free.Unfit.TheVariants as unfitness
-use Rattle.problem.specs.declared.signature.Signature.{Signature}
-use Rattle.problem.specs.Relations.{Declared, arity_of}
-use Rattle.problem.specs.Declarations.{atoms_of, relations_of, declares}
-use Rattle.problem.specs.Free.{fitness}
+use Rattle.relations.specs.declared.declarations.Declarations.{Declarations}
+use Rattle.relations.specs.declared.relation.Arity.{Arity}
+use Rattle.relations.specs.declared.free.Unfit.{Unfit}
+use Rattle.relations.specs.declared.free.Unfit.TheVariants as unfitness
+use Rattle.relations.specs.declared.signature.Signature.{Signature}
+use Rattle.relations.specs.Relations.{Declared, arity_of}
+use Rattle.relations.specs.Declarations.{atoms_of, relations_of, declares}
+use Rattle.relations.specs.Free.{fitness}
 use Rattle.tokens.specs.Cursors.{Cursor}
 use Rattle.tokens.specs.Outcomes.{Outcome, ok, fail, Change, changed, unfit}
 

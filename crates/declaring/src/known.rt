@@ -2,11 +2,11 @@ ghost use Rattle.std.specs.Prelude.{◌≡◌, Ok, Err, MatchResult};
 ghost use Rattle.names.specs.Names.{spelling};
 ghost use Rattle.tokens.specs.Outcomes.{changes};
 ghost use Rattle.declaring.specs.Known.{known, framed, unknown, atomed, nameable, related, arity_given, horizon_given};
-ghost use Rattle.problem.specs.Relations.{declared_of};
+ghost use Rattle.relations.specs.Relations.{declared_of};
 
 use faults::Fault;
 use names::Name;
-use problem::{Arity, Declarations, MOST_RELATIONS, Relation, Signature, Unfit};
+use relations::{Arity, Declarations, MOST_RELATIONS, Relation, Signature, Unfit};
 
 // Whether a name that stands at a place is new: that of no atom and of no relation.
 #[tactic(auto, unfolding(crate::specs::Known::known))]

@@ -2,12 +2,12 @@
 use Rattle.std.proofs.Common.{◌≡◌, ℕ, ◌<◌, Bool, true, false, ◌||◌, List, map, length, get_or, is_some, Option, sym, refl, ap, ◌∙◌, arith}
 use Rattle.std.proofs.lemmas.List.{length-map, get_or-map}
 use Rattle.names.specs.Lookups.{index_of}
-use Rattle.problem.specs.declared.declarations.Declarations.{Declarations}
-use Rattle.problem.specs.declared.signature.Signature.{Signature}
+use Rattle.relations.specs.declared.declarations.Declarations.{Declarations}
+use Rattle.relations.specs.declared.signature.Signature.{Signature}
 use Rattle.problem.specs.declared.draft.Draft.{Draft}
-use Rattle.problem.specs.declared.relation.Relation.{Relation}
-use Rattle.problem.specs.Relations.{declared_of, arity_number}
-use Rattle.problem.specs.Declarations.{declared_arity}
+use Rattle.relations.specs.declared.relation.Relation.{Relation}
+use Rattle.relations.specs.Relations.{declared_of, arity_number}
+use Rattle.relations.specs.Declarations.{declared_arity}
 use Rattle.formulas.specs.Bodies.{Body}
 use Rattle.formulas.specs.Outcomes.{names_of, known}
 use Rattle.formulas.proofs.Steps.{both}

@@ -18,10 +18,10 @@ use Rattle.problem.specs.declared.node.Quantifier.{Quantifier}
 use Rattle.problem.specs.declared.sort.Sort.{Sort}
 use Rattle.problem.specs.declared.sort.Sort.TheVariants as sort
 use Rattle.problem.specs.declared.sort.Misfit.{Misfit}
-use Rattle.problem.specs.declared.relation.Arity.{Arity}
-use Rattle.problem.specs.declared.relation.Arity.TheVariants as relation_arity
-use Rattle.problem.specs.Relations.{Declared, arity_number}
-use Rattle.problem.specs.Declarations.{arities}
+use Rattle.relations.specs.declared.relation.Arity.{Arity}
+use Rattle.relations.specs.declared.relation.Arity.TheVariants as relation_arity
+use Rattle.relations.specs.Relations.{Declared, arity_number}
+use Rattle.relations.specs.Declarations.{arities}
 use Rattle.problem.specs.Sorts.{most_past, most_variables, sort_arity, sort_past, sort_bound, is_expression, is_formula, part_node, part_sort, expression, formula, from, constant_arity, suits, outcome, prefix_past, infix_past, shallow, relation_sort, judge, Judged, found, no_sort, node_at, sort_at, arity_at, bound_at}
 use Rattle.problem.specs.Sorts as sorts
 use Rattle.problem.specs.declared.problem.Problem.{Problem}

@@ -8,12 +8,12 @@ use Rattle.problem.specs.declared.node.Constant.{Constant}
 use Rattle.problem.specs.declared.node.Constant.TheVariants as constants
 use Rattle.problem.specs.declared.node.Operator.{Operator}
 use Rattle.problem.specs.declared.node.Operator.TheVariants as operator
-use Rattle.problem.specs.declared.relation.Arity.{Arity}
-use Rattle.problem.specs.declared.relation.Arity.TheVariants as relation_arity
+use Rattle.relations.specs.declared.relation.Arity.{Arity}
+use Rattle.relations.specs.declared.relation.Arity.TheVariants as relation_arity
 use Rattle.problem.specs.declared.sort.Sort.{Sort}
 use Rattle.problem.specs.declared.draft.Draft.{Draft}
-use Rattle.problem.specs.Relations.{Declared, arity_number}
-use Rattle.problem.specs.Declarations.{relations_of, arities}
+use Rattle.relations.specs.Relations.{Declared, arity_number}
+use Rattle.relations.specs.Declarations.{relations_of, arities}
 use Rattle.problem.specs.Sorts.{part_node, part_sort, sort_arity, is_expression, formula, constant_arity, suits, outcome, prefix_past, infix_past, judge, Judged, no_sort, node_at, sort_at, arity_at}
 use Rattle.problem.specs.Sorts as sorts
 use Rattle.problem.specs.Drafts.{nodes_of, sorts_of, arities_of}

@@ -1,6 +1,3 @@
-pub mod Bounds
-pub mod Made
-pub mod Maps
 pub mod Inversions
 pub mod Arities
 pub mod Judging

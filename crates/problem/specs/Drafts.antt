@@ -4,9 +4,9 @@ use Rattle.problem.specs.declared.node.Node.{Node}
 use Rattle.problem.specs.declared.sort.Sort.{Sort}
 use Rattle.problem.specs.declared.sort.Kind.{Kind}
 use Rattle.problem.specs.declared.sort.Misfit.{Misfit}
-use Rattle.problem.specs.declared.signature.Signature.{Signature}
+use Rattle.relations.specs.declared.signature.Signature.{Signature}
 use Rattle.problem.specs.declared.draft.Draft.{Draft}
-use Rattle.problem.specs.Declarations.{atoms_of, relations_of, arities}
+use Rattle.relations.specs.Declarations.{atoms_of, relations_of, arities}
 use Rattle.problem.specs.Sorts.{most_parts, part_node, part_sort, sort_bound, judge, placed, of_kind, arity_of_kind, sort_at, bound_at}
 
 abbrev pub nodes_of : Draft → List Node

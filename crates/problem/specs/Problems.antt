@@ -5,12 +5,12 @@ use Rattle.problem.specs.declared.node.Node.TheVariants as node
 use Rattle.problem.specs.declared.node.Constant.TheVariants as constant
 use Rattle.problem.specs.declared.node.Test.TheVariants as test
 use Rattle.problem.specs.declared.sort.Sort.{Sort}
-use Rattle.problem.specs.declared.declarations.Declarations.{Declarations}
+use Rattle.relations.specs.declared.declarations.Declarations.{Declarations}
 use Rattle.problem.specs.declared.draft.Draft.{Draft}
 use Rattle.problem.specs.declared.problem.Problem.{Problem}
-use Rattle.problem.specs.Relations.{Declared}
-use Rattle.problem.specs.Declarations.{atoms_of, relations_of}
-use Rattle.problem.specs.Free.{sizes}
+use Rattle.relations.specs.Relations.{Declared}
+use Rattle.relations.specs.Declarations.{atoms_of, relations_of}
+use Rattle.relations.specs.Free.{sizes}
 use Rattle.problem.specs.Drafts.{nodes_of, sorts_of}
 use Rattle.problem.specs.Sorts.{expression, formula}
 

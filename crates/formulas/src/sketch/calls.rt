@@ -1,6 +1,6 @@
 ghost use Rattle.std.specs.Prelude.{◌≡◌, ℕ, ◌||◌, map, is_some, nat_lt};
 ghost use Rattle.names.specs.Lookups.{index_of};
-ghost use Rattle.problem.specs.Declarations.{atoms_of, relations_of, declared_name};
+ghost use Rattle.relations.specs.Declarations.{atoms_of, relations_of, declared_name};
 ghost use Rattle.names.specs.Names.{spelling};
 ghost use Rattle.problem.specs.Sorts.{most_variables};
 ghost use Rattle.formulas.specs.Bodies.{body, begun};

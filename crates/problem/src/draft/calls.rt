@@ -6,9 +6,9 @@ ghost use Rattle.problem.specs.Drafts.{nodes_of, sorts_of, arities_of, Begun, Pu
 use super::super::judge::{judge, wanted};
 use super::super::node::Node;
 use super::super::part::Part;
-use super::super::signature::Signature;
 use super::super::sort::{Kind, Misfit, Sort};
 use super::{Draft, MOST_PARTS, Room};
+use relations::Signature;
 use std::alloc::{AllocError, Global};
 
 impl Room {

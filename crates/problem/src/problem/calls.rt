@@ -1,17 +1,17 @@
 ghost use Rattle.std.specs.Prelude.{◌≡◌, ◌+◌, ◌≤◌, true, map, length, MatchOption, slice_index};
 ghost use Rattle.std.specs.List.{slice_get};
-ghost use Rattle.problem.specs.Relations.{atom_name, relation_name, declared_of};
-ghost use Rattle.problem.specs.Declarations.{declared_name};
-ghost use Rattle.problem.specs.Free.{free_places};
+ghost use Rattle.relations.specs.Relations.{atom_name, relation_name, declared_of};
+ghost use Rattle.relations.specs.Declarations.{declared_name};
+ghost use Rattle.relations.specs.Free.{free_places};
 ghost use Rattle.problem.specs.Sorts.{part_node, part_sort, is_formula, sort_at, bound_at, Whole};
 ghost use Rattle.problem.specs.Drafts.{sorts_of};
 ghost use Rattle.problem.specs.Problems.{atoms_in, relations_in, sizes_in, horizon_of, nodes_in, sorts_in};
 
 use super::super::draft::Draft;
 use super::super::part::Part;
-use super::super::relation::{Atom, Relation};
 use super::super::sort::Sort;
 use super::Problem;
+use relations::{Atom, Relation};
 
 impl Draft {
     // The problem of the formula that the last node is, if it is one and uses no variable.

@@ -2,13 +2,12 @@ ghost use Rattle.std.specs.Prelude.{◌≡◌, [], IfOk};
 ghost use Rattle.problem.specs.Drafts.{sorts_of, nodes_of};
 ghost use Rattle.problem.specs.Problems.{OneAtom, Fresh, Filled};
 
-use super::super::declarations::Declarations;
 use super::super::draft::{Draft, Room};
 use super::super::node::{Constant, Node, Test};
-use super::super::signature::Signature;
 use super::super::sort::Kind;
 use super::Problem;
 use names::Name;
+use relations::{Declarations, Signature};
 use std::alloc::{AllocError, Global};
 
 impl Problem {

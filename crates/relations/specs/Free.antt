@@ -1,12 +1,12 @@
 -- How many places are free, and which declarations and horizon go together. Assumes nothing.
 use Rattle.std.specs.Prelude.{ℕ, ◌*◌, cond, ◌&&◌, List, map, length, sum_by, Some, None, Option, nat_le, nat_lt}
-use Rattle.problem.specs.declared.relation.Mutability.{Mutability}
-use Rattle.problem.specs.declared.relation.Mutability.TheVariants.{Fixed, Mutable}
-use Rattle.problem.specs.declared.relation.Arity.{Arity}
-use Rattle.problem.specs.declared.relation.Arity.TheVariants.{One, Two}
-use Rattle.problem.specs.declared.free.Unfit.{Unfit}
-use Rattle.problem.specs.declared.free.Unfit.TheVariants.{Limit, FreePlaces}
-use Rattle.problem.specs.Relations.{Declared, free_in}
+use Rattle.relations.specs.declared.relation.Mutability.{Mutability}
+use Rattle.relations.specs.declared.relation.Mutability.TheVariants.{Fixed, Mutable}
+use Rattle.relations.specs.declared.relation.Arity.{Arity}
+use Rattle.relations.specs.declared.relation.Arity.TheVariants.{One, Two}
+use Rattle.relations.specs.declared.free.Unfit.{Unfit}
+use Rattle.relations.specs.declared.free.Unfit.TheVariants.{Limit, FreePlaces}
+use Rattle.relations.specs.Relations.{Declared, free_in}
 
 abbrev pub most_horizon : ℕ
 most_horizon = 8

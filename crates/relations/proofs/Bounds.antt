@@ -1,7 +1,7 @@
 -- The bounds of a relation from its two sets.
 use Rattle.std.proofs.Common.{◌≡◌, ℕ, zero, suc, ◌<◌, Bool, false, List, [], ◌∷◌, length, get_or, refl, ap, arith}
 use Rattle.lasso.specs.declared.value.Value.TheVariants.{No}
-use Rattle.problem.specs.Relations.{bound, bounds_of}
+use Rattle.relations.specs.Relations.{bound, bounds_of}
 
 pub length_bounds : (ls us : List Bool) → length ls ≡ length us → length (bounds_of ls us) ≡ length ls
 unfolding bounds_of

@@ -1,7 +1,7 @@
 ghost use Rattle.std.specs.Prelude.{◌≡◌, ◌≤◌, [], ◌∷◌, ◌++◌, map, length, IfOk, is_ok, if◌then◌else◌, nat_lt};
 ghost use Rattle.names.specs.Names.{spelling};
-ghost use Rattle.problem.specs.Relations.{atom_name, relation_name, declared_of};
-ghost use Rattle.problem.specs.Declarations.{atoms_of, relations_of, declared_name, declares};
+ghost use Rattle.relations.specs.Relations.{atom_name, relation_name, declared_of};
+ghost use Rattle.relations.specs.Declarations.{atoms_of, relations_of, declared_name, declares};
 
 use super::super::relation::{Atom, Relation};
 use super::{Declarations, MOST_ATOMS, MOST_RELATIONS, NoRoom};

@@ -1,7 +1,7 @@
 ghost use Rattle.std.specs.Prelude.{◌≡◌, ◌≤◌, Some, None, MatchResult, length, slice_index};
-ghost use Rattle.problem.specs.Declarations.{atoms_of, relations_of};
-ghost use Rattle.problem.specs.Free.{fitness as fitness_of, sizes, free_places};
-ghost use Rattle.problem.specs.Signatures.{Fits};
+ghost use Rattle.relations.specs.Declarations.{atoms_of, relations_of};
+ghost use Rattle.relations.specs.Free.{fitness as fitness_of, sizes, free_places};
+ghost use Rattle.relations.specs.Signatures.{Fits};
 
 use super::super::declarations::Declarations;
 use super::super::free::Scope;

@@ -3,13 +3,13 @@ use Rattle.std.specs.Prelude.{◌≡◌, ℕ, Bool, true, false, cond, List, [],
 use Rattle.lasso.specs.declared.value.Value.{Value}
 use Rattle.lasso.specs.declared.value.Value.TheVariants.{No, Open, Yes}
 use Rattle.names.specs.Names.{spelling}
-use Rattle.problem.specs.declared.relation.Atom.{Atom}
-use Rattle.problem.specs.declared.relation.Mutability.{Mutability}
-use Rattle.problem.specs.declared.relation.Mutability.TheVariants.{Fixed, Mutable}
-use Rattle.problem.specs.declared.relation.Arity.{Arity}
-use Rattle.problem.specs.declared.relation.Arity.TheVariants.{One, Two}
-use Rattle.problem.specs.declared.relation.NotAnArity.{NotAnArity}
-use Rattle.problem.specs.declared.relation.Relation.{Relation}
+use Rattle.relations.specs.declared.relation.Atom.{Atom}
+use Rattle.relations.specs.declared.relation.Mutability.{Mutability}
+use Rattle.relations.specs.declared.relation.Mutability.TheVariants.{Fixed, Mutable}
+use Rattle.relations.specs.declared.relation.Arity.{Arity}
+use Rattle.relations.specs.declared.relation.Arity.TheVariants.{One, Two}
+use Rattle.relations.specs.declared.relation.NotAnArity.{NotAnArity}
+use Rattle.relations.specs.declared.relation.Relation.{Relation}
 
 -- the most tuples of a relation
 abbrev pub most_tuples : ℕ

@@ -1,6 +1,6 @@
 ghost use Rattle.std.specs.Prelude.{◌≡◌, ◌≤◌, map, length, slice_index};
-ghost use Rattle.problem.specs.Relations.{declared_of};
-ghost use Rattle.problem.specs.Free.{size_of, sizes, times_of, free_of, free_places};
+ghost use Rattle.relations.specs.Relations.{declared_of};
+ghost use Rattle.relations.specs.Free.{size_of, sizes, times_of, free_of, free_places};
 
 use super::relation::{Arity, Mutability, Relation};
 
@@ -32,7 +32,7 @@ impl Scope {
     }
 
     // How many tuples the relation at an index may have, 0 beyond the end.
-    #[tactic(auto, using(crate::proofs::Nths::size_got, crate::proofs::Nths::no_size))]
+    #[tactic(auto, using(crate::proofs::Sizes::size_got, crate::proofs::Sizes::no_size))]
     pub(crate) fn size_at(self, relations: &[Relation], at: usize) -> usize
         ensures value { result ≡ slice_index (sizes self.atoms (map declared_of relations.now)) at }
         ensures few { result ≤ 64 }

@@ -1,6 +1,6 @@
 ghost use Rattle.std.specs.Prelude.{◌≡◌, Some};
 ghost use Rattle.names.specs.Names.{spelling};
-ghost use Rattle.problem.specs.Relations.{IsArityOf, arity_number, mutability_word};
+ghost use Rattle.relations.specs.Relations.{IsArityOf, arity_number, mutability_word};
 
 use super::{Arity, Atom, Mutability, NotAnArity};
 use names::{Name, Named};

@@ -1,6 +1,6 @@
 ghost use Rattle.std.specs.Prelude.{◌≤◌, length};
-ghost use Rattle.problem.specs.Declarations.{atoms_of, relations_of};
-ghost use Rattle.problem.specs.Free.{free_places};
+ghost use Rattle.relations.specs.Declarations.{atoms_of, relations_of};
+ghost use Rattle.relations.specs.Free.{free_places};
 
 use super::declarations::Declarations;
 pub use super::free::Unfit;

@@ -1,8 +1,8 @@
 -- The atoms and the relations that are declared, for src/declarations. Assumes nothing.
 use Rattle.std.specs.Prelude.{ℕ, Bool, ◌||◌, List, map, is_some, vec_items}
 use Rattle.names.specs.Lookups.{index_of}
-use Rattle.problem.specs.declared.declarations.Declarations.{Declarations}
-use Rattle.problem.specs.Relations.{Declared, atom_name, declared_of, arity_number}
+use Rattle.relations.specs.declared.declarations.Declarations.{Declarations}
+use Rattle.relations.specs.Relations.{Declared, atom_name, declared_of, arity_number}
 
 -- the names of the atoms
 abbrev pub atoms_of : Declarations → List (List ℕ)

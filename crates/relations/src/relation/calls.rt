@@ -1,7 +1,7 @@
 ghost use Rattle.std.specs.Prelude.{◌≡◌, ◌≤◌, length, slice_index_or};
 ghost use Rattle.names.specs.Names.{spelling};
 ghost use Rattle.lasso.specs.declared.value.Value.TheVariants.{No};
-ghost use Rattle.problem.specs.Relations.{declared_of, declared, bounds_of, bound as bound_of, number_of, free_in};
+ghost use Rattle.relations.specs.Relations.{declared_of, declared, bounds_of, bound as bound_of, number_of, free_in};
 
 use super::super::tuples::TupleSet;
 use super::{Arity, Mutability, Relation};

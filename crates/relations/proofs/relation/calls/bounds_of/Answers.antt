@@ -1,11 +1,11 @@
 use Rattle.std.proofs.Common.{◌≡◌, length, get_or, false, rules, refl, sym, ap, ◌∙◌, arith}
 use Rattle.std.proofs.lemmas.List.{ext_get_or}
 use Rattle.lasso.specs.declared.value.Value.TheVariants.{No}
-use Rattle.problem.specs.declared.tuples.TupleSet.{TupleSet}
-use Rattle.problem.specs.Relations.{bound, bounds_of}
-use Rattle.problem.proofs.Bounds.{length_bounds, get_d_bounds}
-use Rattle.problem.proofs.Made.{made_at}
-use Rattle.problem.proofs.relation.calls.bounds_of.Goals as goal
+use Rattle.relations.specs.declared.tuples.TupleSet.{TupleSet}
+use Rattle.relations.specs.Relations.{bound, bounds_of}
+use Rattle.relations.proofs.Bounds.{length_bounds, get_d_bounds}
+use Rattle.relations.proofs.Made.{made_at}
+use Rattle.relations.proofs.relation.calls.bounds_of.Goals as goal
 
 -- the search makes no induction over the calls of a closure that holds both sets, also not with these three lemmas by `using`
 pub returns-clause-value : goal.returns-clause-value
