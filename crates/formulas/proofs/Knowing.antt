@@ -1,5 +1,5 @@
 -- Names that are known: what a lookup in each list says of what is read so far; the arity of a relation.
-use Rattle.std.proofs.Common.{◌≡◌, ℕ, ◌<◌, Bool, true, false, ◌||◌, List, map, length, get_or, is_some, Option, sym, refl, ap, ◌∙◌, arith}
+use Rattle.std.proofs.Common.{◌≡◌, ℕ, ◌<◌, Bool, true, false, ◌||◌, List, map, length, get_or, is_some, sym, refl, ap, ◌∙◌, arith}
 use Rattle.std.proofs.lemmas.List.{length-map, get_or-map}
 use Rattle.names.specs.Lookups.{index_of}
 use Rattle.relations.specs.declared.declarations.Declarations.{Declarations}

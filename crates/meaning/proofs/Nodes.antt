@@ -1,15 +1,11 @@
 -- What a node of a formula is made of, what sort it has, and the tree that it stands for.
-use Rattle.std.proofs.Common.{◌≡◌, ℕ, zero, suc, ◌+◌, ◌<◌, ◌≤◌, max, Bool, true, false, cond, ltb, List, [], ◌∷◌, length, take, slice_get, slice_index, Some, None, Ok, Err, Option, Result, sym, refl, ap, ap₂, ◌∙◌, arith, eqb-true, ltb-true, leb-true, get_or-take, length-take}
-use Rattle.std.proofs.lemmas.Bool.{and_parts}
+use Rattle.std.proofs.Common.{◌≡◌, ℕ, zero, suc, ◌+◌, ◌<◌, ◌≤◌, max, true, ltb, List, length, take, slice_get, slice_index, Ok, Result, sym, refl, ap, ap₂, ◌∙◌, arith, ltb-true, get_or-take, length-take}
 use Rattle.std.proofs.lemmas.List.{length-map}
-use Rattle.std.proofs.lemmas.Option.{slice_get_within, get_or_from_slice_get}
 use Rattle.problem.specs.declared.node.Node.{Node}
 use Rattle.problem.specs.declared.node.Node.TheVariants as node
 use Rattle.problem.specs.declared.node.Constant.{Constant}
-use Rattle.problem.specs.declared.node.Constant.TheVariants as constants
 use Rattle.problem.specs.declared.node.Turn.{Turn}
 use Rattle.problem.specs.declared.node.Operator.{Operator}
-use Rattle.problem.specs.declared.node.Operator.TheVariants as operator
 use Rattle.problem.specs.declared.node.Test.{Test}
 use Rattle.problem.specs.declared.node.Comparison.{Comparison}
 use Rattle.problem.specs.declared.node.Prefix.{Prefix}
@@ -18,14 +14,11 @@ use Rattle.problem.specs.declared.node.Quantifier.{Quantifier}
 use Rattle.problem.specs.declared.sort.Sort.{Sort}
 use Rattle.problem.specs.declared.sort.Sort.TheVariants as sort
 use Rattle.problem.specs.declared.sort.Misfit.{Misfit}
-use Rattle.relations.specs.declared.relation.Arity.{Arity}
-use Rattle.relations.specs.declared.relation.Arity.TheVariants as relation_arity
-use Rattle.relations.specs.Relations.{Declared, arity_number}
-use Rattle.relations.specs.Declarations.{arities}
 use Rattle.problem.specs.Sorts.{most_past, most_variables, sort_arity, sort_past, sort_bound, is_expression, is_formula, part_node, part_sort, expression, formula, from, constant_arity, suits, outcome, prefix_past, infix_past, shallow, relation_sort, judge, Judged, found, no_sort, node_at, sort_at, arity_at, bound_at}
 use Rattle.problem.specs.Sorts as sorts
 use Rattle.problem.specs.declared.problem.Problem.{Problem}
 use Rattle.problem.specs.Problems.{nodes_in, sorts_in}
+use Rattle.problem.proofs.Inversions.{fits, found_inv, part_in, ok_inv, relation_inv, turned_inv, next_inv, tested_inv, combined_inv, compared_inv, prefixed_inv, joined_inv, quantified_inv}
 use Rattle.meaning.specs.Formulas.{Expr, variable, constant, turned, next, combined, arity, Formula, tested, compared, prefixed, joined, quantified, depth}
 use Rattle.meaning.specs.Trees.{Places, relation_tree, expr_of, formula_of, expr_within, formula_within, expr_tree, formula_tree, places_in}
 use Rattle.meaning.specs.NodeLaws.{past_at}

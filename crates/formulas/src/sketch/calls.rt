@@ -1,6 +1,4 @@
-ghost use Rattle.std.specs.Prelude.{◌≡◌, ℕ, ◌||◌, map, is_some, nat_lt};
-ghost use Rattle.names.specs.Lookups.{index_of};
-ghost use Rattle.relations.specs.Declarations.{atoms_of, relations_of, declared_name};
+ghost use Rattle.std.specs.Prelude.{◌≡◌, nat_lt};
 ghost use Rattle.names.specs.Names.{spelling};
 ghost use Rattle.problem.specs.Sorts.{most_variables};
 ghost use Rattle.formulas.specs.Bodies.{body, begun};
@@ -172,6 +170,7 @@ impl Sketch {
     }
 
     // Whether a name may be bound: it is not known, and there may be one variable more.
+    #[tactic(auto, unfolding(crate::specs::Bodies::body, crate::specs::Outcomes::bindable))]
     pub fn bindable(&self, name: Name, place: usize) -> Result<(), Fault>
         ensures { result ≡ bindable (spelling name) place (body self.now) }
     {
