@@ -1,8 +1,8 @@
 -- One turn more of what is read any number of times, and its end.
 use Rattle.std.proofs.Common.{◌≡◌, ℕ, zero, suc, ◌-◌, ◌<◌, true, false, List, Some, None, refl, ap, ◌∙◌, sym, arith}
 use Rattle.std.proofs.lemmas.Bool.{cond-true, cond-false}
-use Rattle.problem.specs.declared.relation.Mutability.{Mutability}
-use Rattle.problem.specs.declared.relation.Arity.{Arity}
+use Rattle.relations.specs.declared.relation.Mutability.{Mutability}
+use Rattle.relations.specs.declared.relation.Arity.{Arity}
 use Rattle.tokens.specs.declared.mark.Mark.TheVariants as mark
 use Rattle.tokens.specs.Items.{is_mark}
 use Rattle.tokens.specs.Cursors.{Cursor, head, step}

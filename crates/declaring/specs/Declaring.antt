@@ -1,10 +1,10 @@
 -- How the declarations of a text are read, one line a production, for src/declare. Assumes nothing.
 use Rattle.std.specs.Prelude.{ℕ, zero, suc, cond, List, Some, None, Option}
 use Rattle.std.specs.Option.{option_and_then}
-use Rattle.problem.specs.declared.relation.Mutability.{Mutability}
-use Rattle.problem.specs.declared.relation.Mutability.TheVariants.{Fixed, Mutable}
-use Rattle.problem.specs.declared.relation.Arity.{Arity}
-use Rattle.problem.specs.Relations.{declared}
+use Rattle.relations.specs.declared.relation.Mutability.{Mutability}
+use Rattle.relations.specs.declared.relation.Mutability.TheVariants.{Fixed, Mutable}
+use Rattle.relations.specs.declared.relation.Arity.{Arity}
+use Rattle.relations.specs.Relations.{declared}
 use Rattle.tokens.specs.declared.mark.Mark.TheVariants as mark
 use Rattle.tokens.specs.declared.token.Word.{Word}
 use Rattle.tokens.specs.declared.token.Word.TheVariants as words

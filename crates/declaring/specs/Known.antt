@@ -1,16 +1,15 @@
 -- What is declared so far, for src/declare. Assumes nothing.
-use Rattle.std.specs.Prelude.{ℕ, Bool, cond, ◌||◌, List, [], ◌∷◌, ◌++◌, map, length, is_some, Some, None, Ok, Err, Option, Result, nat_lt}
+use Rattle.std.specs.Prelude.{ℕ, Bool, cond, List, [], ◌∷◌, ◌++◌, length, Some, None, Ok, Err, Option, Result, nat_lt}
 use Rattle.faults.specs.declared.Fault.{Fault}
 use Rattle.faults.specs.declared.Fault.TheVariants.{NameKnown, OverLimit, TooManyFreePlaces, LowerOutsideUpper}
-use Rattle.names.specs.Lookups.{index_of}
-use Rattle.problem.specs.declared.declarations.Declarations.{Declarations}
-use Rattle.problem.specs.declared.relation.Arity.{Arity}
-use Rattle.problem.specs.declared.free.Unfit.{Unfit}
-use Rattle.problem.specs.declared.free.Unfit.TheVariants as unfitness
-use Rattle.problem.specs.declared.signature.Signature.{Signature}
-use Rattle.problem.specs.Relations.{Declared, arity_of}
-use Rattle.problem.specs.Declarations.{atoms_of, relations_of, declared_name}
-use Rattle.problem.specs.Free.{fitness}
+use Rattle.relations.specs.declared.declarations.Declarations.{Declarations}
+use Rattle.relations.specs.declared.relation.Arity.{Arity}
+use Rattle.relations.specs.declared.free.Unfit.{Unfit}
+use Rattle.relations.specs.declared.free.Unfit.TheVariants as unfitness
+use Rattle.relations.specs.declared.signature.Signature.{Signature}
+use Rattle.relations.specs.Relations.{Declared, arity_of}
+use Rattle.relations.specs.Declarations.{atoms_of, relations_of, declares}
+use Rattle.relations.specs.Free.{fitness}
 use Rattle.tokens.specs.Cursors.{Cursor}
 use Rattle.tokens.specs.Outcomes.{Outcome, ok, fail, Change, changed, unfit}
 
@@ -22,12 +21,13 @@ pub record Known : Type 0 where
 unfoldable pub known : Declarations → Known
 known d = record { atoms = atoms_of d; relations = relations_of d }
 
-abbrev pub relation_names : Known → List (List ℕ)
-relation_names k = map declared_name k.relations
-
 -- a name is that of an atom or a relation
 abbrev pub taken : List ℕ → Known → Bool
-taken x k = is_some (index_of x k.atoms) || is_some (index_of x (relation_names k))
+taken x k = declares k.atoms k.relations x
+
+-- a name is new
+abbrev pub unknown : List ℕ → ℕ → Known → Result (Unit {0}) Fault
+unknown x p k = cond (taken x k) (Err (NameKnown p)) (Ok tt)
 
 -- an atom more, if its name is new and there is room
 unfoldable pub atomed : List ℕ → ℕ → Known → Change Known (Unit {0})

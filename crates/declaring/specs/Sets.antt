@@ -3,8 +3,8 @@ use Rattle.std.specs.Prelude.{ℕ, zero, suc, ◌+◌, ◌*◌, min, Bool, true,
 use Rattle.faults.specs.declared.Fault.{Fault}
 use Rattle.faults.specs.declared.Fault.TheVariants.{NameUnknown, ArityMismatch}
 use Rattle.names.specs.Lookups.{index_of}
-use Rattle.problem.specs.declared.relation.Arity.{Arity}
-use Rattle.problem.specs.declared.relation.Arity.TheVariants.{One, Two}
+use Rattle.relations.specs.declared.relation.Arity.{Arity}
+use Rattle.relations.specs.declared.relation.Arity.TheVariants.{One, Two}
 use Rattle.tokens.specs.declared.mark.Mark.TheVariants as mark
 use Rattle.tokens.specs.Items.{place_of, name_of, is_mark}
 use Rattle.tokens.specs.Cursors.{Cursor, head}

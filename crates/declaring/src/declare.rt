@@ -12,7 +12,7 @@ use super::reader::Reader;
 use super::sets::MOST_TEXT;
 use faults::Fault;
 use names::Name;
-use problem::{Arity, Declarations, Mutability, Relation, Signature};
+use relations::{Arity, Declarations, Mutability, Relation, Signature};
 use tokens::{Mark, Token, Tokens, Word};
 
 // Reads the horizon, and answers what is declared with it.

@@ -1,19 +1,22 @@
 ghost use Rattle.std.specs.Prelude.{◌≡◌, Ok, Err, MatchResult};
 ghost use Rattle.names.specs.Names.{spelling};
 ghost use Rattle.tokens.specs.Outcomes.{changes};
-ghost use Rattle.declaring.specs.Known.{known, framed, taken as taken_in, atomed, nameable, related, arity_given, horizon_given};
-ghost use Rattle.problem.specs.Relations.{declared_of};
+ghost use Rattle.declaring.specs.Known.{known, framed, unknown, atomed, nameable, related, arity_given, horizon_given};
+ghost use Rattle.relations.specs.Relations.{declared_of};
 
 use faults::Fault;
-use names::{Name, lookup};
-use problem::{Arity, Declarations, MOST_RELATIONS, Relation, Signature, Unfit};
+use names::Name;
+use relations::{Arity, Declarations, MOST_RELATIONS, Relation, Signature, Unfit};
 
-// Whether a name is that of an atom or a relation.
+// Whether a name that stands at a place is new: that of no atom and of no relation.
 #[tactic(auto, unfolding(crate::specs::Known::known))]
-fn taken(declared: &Declarations, name: &[u8]) -> bool
-    ensures { result ≡ taken_in name.now (known declared.now) }
+fn unknown(declared: &Declarations, name: Name, place: usize) -> Result<(), Fault>
+    ensures { result ≡ unknown (spelling name) place (known declared.now) }
 {
-    lookup(declared.atoms(), name).is_some() || lookup(declared.relations(), name).is_some()
+    if declared.declares(name) {
+        return Err(Fault::NameKnown { place });
+    }
+    Ok(())
 }
 
 // Declares an atom, whose name stands at a place.
@@ -21,9 +24,7 @@ fn taken(declared: &Declarations, name: &[u8]) -> bool
 pub fn declare_atom(declared: &mut Declarations, name: Name, place: usize) -> Result<(), Fault>
     ensures { changes result (known declared.new) ≡ atomed (spelling name) place (known declared.old) }
 {
-    if taken(declared, name.as_bytes()) {
-        return Err(Fault::NameKnown { place });
-    }
+    unknown(declared, name, place)?;
     declared
         .add_atom(name)
         .map_err(|_| Fault::OverLimit { place })
@@ -34,9 +35,7 @@ pub fn declare_atom(declared: &mut Declarations, name: Name, place: usize) -> Re
 pub fn nameable_at(declared: &Declarations, name: Name, place: usize) -> Result<(), Fault>
     ensures { result ≡ nameable (spelling name) place (known declared.now) }
 {
-    if taken(declared, name.as_bytes()) {
-        return Err(Fault::NameKnown { place });
-    }
+    unknown(declared, name, place)?;
     if declared.relation_count() >= MOST_RELATIONS {
         return Err(Fault::OverLimit { place });
     }

@@ -1,4 +1,4 @@
-use problem::Declarations;
+use relations::Declarations;
 use tokens::Tokens;
 
 // What is left to read, and what is declared so far.

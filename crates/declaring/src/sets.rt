@@ -1,6 +1,6 @@
 ghost use Rattle.std.specs.Prelude.{◌≡◌, ◌<◌, ◌≤◌, length, IfSome, IfOk};
 ghost use Rattle.names.specs.Names.{spelling};
-ghost use Rattle.problem.specs.Declarations.{atoms_of};
+ghost use Rattle.relations.specs.Declarations.{atoms_of};
 ghost use Rattle.tokens.specs.Cursors.{cursor};
 ghost use Rattle.tokens.specs.Outcomes.{told};
 ghost use Rattle.declaring.specs.Sets.{listed, atom_named, atom_number, second_number, numbered, tuple as tuple_of, tuples as tuples_of, tuple_set, set_told, most_text};
@@ -9,7 +9,7 @@ use super::reader::Reader;
 use super::tuples::Tuples;
 use faults::Fault;
 use names::{Name, lookup};
-use problem::{Arity, Declarations};
+use relations::{Arity, Declarations};
 use tokens::Mark;
 
 // The most bytes of a text, so more than it has tuples.

@@ -1,6 +1,6 @@
 ghost use Rattle.std.specs.Prelude.{◌≡◌, length};
 
-use problem::TupleSet;
+use relations::TupleSet;
 
 mod calls;
 

@@ -4,9 +4,9 @@ use Rattle.std.specs.Prelude.{slice_index_or}
 use Rattle.std.proofs.Math.Nat.{mul-le-mul_left}
 use Rattle.lasso.specs.declared.value.Value.{Value}
 use Rattle.lasso.specs.declared.value.Value.TheVariants.{Open}
-use Rattle.problem.specs.declared.relation.Arity.{Arity}
-use Rattle.problem.specs.declared.relation.Arity.TheVariants.{One, Two}
-use Rattle.problem.specs.Relations.{arity_number}
+use Rattle.relations.specs.declared.relation.Arity.{Arity}
+use Rattle.relations.specs.declared.relation.Arity.TheVariants.{One, Two}
+use Rattle.relations.specs.Relations.{arity_number}
 use Rattle.problem.specs.declared.problem.Problem.{Problem}
 use Rattle.problem.specs.Sorts.{is_expression, sort_at, arity_at, bound_at}
 use Rattle.problem.specs.Problems.{nodes_in, sorts_in}

@@ -4,7 +4,7 @@ use Rattle.lasso.specs.declared.value.Value.{Value}
 use Rattle.lasso.specs.declared.value.Value.TheVariants.{Open}
 use Rattle.lasso.specs.Lassos.{state_at}
 use Rattle.problem.specs.declared.problem.Problem.{Problem}
-use Rattle.problem.specs.Relations.{arity_number}
+use Rattle.relations.specs.Relations.{arity_number}
 use Rattle.problem.specs.Sorts.{is_expression, sort_at, arity_at, bound_at}
 use Rattle.problem.specs.Problems.{sorts_in}
 use Rattle.meaning.specs.Tuples.{tuples}

@@ -1,5 +1,5 @@
 ghost use Rattle.std.specs.Prelude.{◌≡◌, ◌<◌, true, length};
-ghost use Rattle.problem.specs.Relations.{arity_number};
+ghost use Rattle.relations.specs.Relations.{arity_number};
 ghost use Rattle.problem.specs.Sorts.{is_expression, sort_at, arity_at, bound_at};
 ghost use Rattle.problem.specs.Problems.{nodes_in, sorts_in};
 ghost use Rattle.meaning.specs.Trees.{no_variable};
@@ -10,7 +10,7 @@ use super::evaluator::Evaluator;
 use super::kept::States;
 use super::parts::{is_closed, small};
 use lasso::Value;
-use problem::Arity;
+use relations::Arity;
 
 impl Evaluator<'_> {
     // Works out the expressions of all nodes that use no variable and have few tuples, each after its parts.

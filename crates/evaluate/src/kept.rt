@@ -1,7 +1,7 @@
 ghost use Rattle.std.specs.Prelude.{◌≡◌, IfSome, replicate, slice_index_or, slice_set};
 
 use lasso::Value;
-use problem::Arity;
+use relations::Arity;
 use table::MOST_STATES;
 
 // The values of an expression in each state: those of its first 64 tuples, of one or two atoms.

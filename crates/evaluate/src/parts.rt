@@ -1,12 +1,13 @@
 ghost use Rattle.std.specs.Prelude.{◌≡◌, ◌<◌, Decides, true, length, IfSome, slice_index, slice_set};
 ghost use Rattle.lasso.specs.Lassos.{following};
-ghost use Rattle.problem.specs.Declarations.{arities};
-ghost use Rattle.problem.specs.Relations.{arity_number};
+ghost use Rattle.relations.specs.Declarations.{arities};
+ghost use Rattle.relations.specs.Relations.{arity_number};
 ghost use Rattle.problem.specs.Sorts.{node_at, sort_at, arity_at, bound_at, sort_arity, sort_bound, is_expression};
 ghost use Rattle.problem.specs.Problems.{nodes_in, relations_in, sorts_in};
 
 use lasso::{Shape, State};
-use problem::{Arity, Node, Problem, Sort};
+use problem::{Node, Problem, Sort};
+use relations::Arity;
 
 // A node of a problem.
 pub(crate) fn node_at(problem: &Problem, node: usize) -> Node

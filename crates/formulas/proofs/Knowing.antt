@@ -1,13 +1,13 @@
 -- Names that are known: what a lookup in each list says of what is read so far; the arity of a relation.
-use Rattle.std.proofs.Common.{◌≡◌, ℕ, ◌<◌, Bool, true, false, ◌||◌, List, map, length, get_or, is_some, Option, sym, refl, ap, ◌∙◌, arith}
+use Rattle.std.proofs.Common.{◌≡◌, ℕ, ◌<◌, Bool, true, false, ◌||◌, List, map, length, get_or, is_some, sym, refl, ap, ◌∙◌, arith}
 use Rattle.std.proofs.lemmas.List.{length-map, get_or-map}
 use Rattle.names.specs.Lookups.{index_of}
-use Rattle.problem.specs.declared.declarations.Declarations.{Declarations}
-use Rattle.problem.specs.declared.signature.Signature.{Signature}
+use Rattle.relations.specs.declared.declarations.Declarations.{Declarations}
+use Rattle.relations.specs.declared.signature.Signature.{Signature}
 use Rattle.problem.specs.declared.draft.Draft.{Draft}
-use Rattle.problem.specs.declared.relation.Relation.{Relation}
-use Rattle.problem.specs.Relations.{declared_of, arity_number}
-use Rattle.problem.specs.Declarations.{declared_arity}
+use Rattle.relations.specs.declared.relation.Relation.{Relation}
+use Rattle.relations.specs.Relations.{declared_of, arity_number}
+use Rattle.relations.specs.Declarations.{declared_arity}
 use Rattle.formulas.specs.Bodies.{Body}
 use Rattle.formulas.specs.Outcomes.{names_of, known}
 use Rattle.formulas.proofs.Steps.{both}
@@ -15,10 +15,6 @@ use Rattle.formulas.proofs.Steps.{both}
 -- what the declarations say, by way of the signature
 pub through : {Y : Type 0} (f : Declarations → Y) (d : Draft) (s : Signature) (e : Declarations) (y : Y) → y ≡ f e → e ≡ s.declared → s ≡ d.signature → y ≡ f d.signature.declared
 through f d s e y p q r = p ∙ ap f (q ∙ ap (λ (t : Signature). t.declared) r)
-
--- whether a name was found, in a list that equals the one looked through
-pub looked : (x : List ℕ) (t : Bool) (o : Option ℕ) (ys zs : List (List ℕ)) → t ≡ is_some o → o ≡ index_of x ys → ys ≡ zs → t ≡ is_some (index_of x zs)
-looked x t o ys zs e f g = e ∙ ap is_some (f ∙ ap (index_of x) g)
 
 -- known, from what is declared and what is in scope
 pub known_from : (x : List ℕ) (b : Body) (d r : Bool) → d ≡ (is_some (index_of x b.atoms) || is_some (index_of x (names_of b))) → r ≡ is_some (index_of x b.scope) → (d || r) ≡ known x b

@@ -11,7 +11,7 @@ use Rattle.problem.specs.declared.sort.Sort.{Sort}
 use Rattle.problem.specs.declared.sort.Kind.{Kind}
 use Rattle.problem.specs.declared.sort.Misfit.{Misfit}
 use Rattle.problem.specs.Sorts.{placed}
-use Rattle.problem.specs.Declarations.{atoms_of, relations_of}
+use Rattle.relations.specs.Declarations.{atoms_of, relations_of}
 use Rattle.problem.specs.Drafts.{nodes_of, sorts_of, Put, NotPut, Kept}
 use Rattle.formulas.specs.declared.sketch.Sketch.{Sketch}
 use Rattle.formulas.specs.Bodies.{Body, body, name_of_variable}

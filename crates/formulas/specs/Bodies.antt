@@ -4,8 +4,8 @@ use Rattle.names.specs.Names.{spelling}
 use Rattle.problem.specs.declared.node.Node.{Node}
 use Rattle.problem.specs.declared.sort.Sort.{Sort}
 use Rattle.problem.specs.declared.draft.Draft.{Draft}
-use Rattle.problem.specs.Relations.{Declared}
-use Rattle.problem.specs.Declarations.{atoms_of, relations_of}
+use Rattle.relations.specs.Relations.{Declared}
+use Rattle.relations.specs.Declarations.{atoms_of, relations_of}
 use Rattle.problem.specs.Drafts.{nodes_of, sorts_of}
 use Rattle.stack.specs.declared.stack.Stack.{Stack}
 use Rattle.stack.specs.Stacks.{entries, room}

@@ -12,7 +12,7 @@ use Rattle.problem.specs.declared.sort.Kind.TheVariants as kind
 use Rattle.problem.specs.declared.sort.Misfit.{Misfit}
 use Rattle.problem.specs.declared.sort.Misfit.TheVariants as misfit
 use Rattle.problem.specs.Sorts.{placed, arity_at, constant_arity, most_parts, most_variables}
-use Rattle.problem.specs.Relations.{arity_number}
+use Rattle.relations.specs.Relations.{arity_number}
 use Rattle.tokens.specs.declared.mark.Mark.{Mark}
 use Rattle.tokens.specs.Cursors.{Cursor}
 use Rattle.tokens.specs.Outcomes as steps

@@ -3,7 +3,8 @@ use super::shown::Shown;
 use faults::Fault;
 use lasso::Value;
 use names::Named;
-use problem::{MOST_FREE, Problem, Relation};
+use problem::Problem;
+use relations::{MOST_FREE, Relation};
 use std::fmt;
 use words::Refusal;
 

@@ -12,8 +12,8 @@ use Rattle.meaning.proofs.Coherent.{coheres, one_value}
 use Rattle.meaning.proofs.Refines.{refines}
 use Rattle.meaning.proofs.Periods.{reaches_again}
 use Rattle.meaning.proofs.Expressions.{has_value}
-use Rattle.problem.specs.Problems.{relations_in}
-use Rattle.meaning.proofs.Nodes.{sorted_in, relation_some, expression_some, tree_arity, tree_depth, past_few}
+use Rattle.problem.proofs.Arities.{sized_in}
+use Rattle.meaning.proofs.Nodes.{sorted_in, tree_arity, tree_depth, past_few}
 use Rattle.meaning.proofs.Shown.{own, own_table, not_shown, smaller_shown, greater_shown}
 use Rattle.meaning.proofs.Chains.{chains_shown}
 use Rattle.meaning.proofs.TableLaws.{constant_shown, variable_shown, join_met, some_shown, none_shown, within_shown, same_of_shown, all_shown, some_of_shown}
@@ -53,7 +53,7 @@ expressions_stand n π a e i t r = (has_value n π a e i r).each t
 
 pub nodes_stand : NodesStand
 nodes_stand = record {
-  some = λ p i h k. expression_some (sorted_in p) (λ r. relation_some (relations_in p) r) i h k;
+  some = λ p i h k. sized_in p.draft i h k;
   arities = λ p i h k. tree_arity (sorted_in p) i h k;
   depths = λ p i h k. tree_depth (sorted_in p) i h;
   shallow = λ p i h. past_few (sorted_in p) i h;

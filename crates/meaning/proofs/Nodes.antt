@@ -1,15 +1,11 @@
 -- What a node of a formula is made of, what sort it has, and the tree that it stands for.
-use Rattle.std.proofs.Common.{◌≡◌, ℕ, zero, suc, ◌+◌, ◌<◌, ◌≤◌, max, Bool, true, false, cond, ltb, List, [], ◌∷◌, length, take, slice_get, slice_index, Some, None, Ok, Err, Option, Result, sym, refl, ap, ap₂, ◌∙◌, arith, eqb-true, ltb-true, leb-true, get_or-take, length-take}
-use Rattle.std.proofs.lemmas.Bool.{and_parts}
+use Rattle.std.proofs.Common.{◌≡◌, ℕ, zero, suc, ◌+◌, ◌<◌, ◌≤◌, max, true, ltb, List, length, take, slice_get, slice_index, Ok, Result, sym, refl, ap, ap₂, ◌∙◌, arith, ltb-true, get_or-take, length-take}
 use Rattle.std.proofs.lemmas.List.{length-map}
-use Rattle.std.proofs.lemmas.Option.{slice_get_within, get_or_from_slice_get}
 use Rattle.problem.specs.declared.node.Node.{Node}
 use Rattle.problem.specs.declared.node.Node.TheVariants as node
 use Rattle.problem.specs.declared.node.Constant.{Constant}
-use Rattle.problem.specs.declared.node.Constant.TheVariants as constants
 use Rattle.problem.specs.declared.node.Turn.{Turn}
 use Rattle.problem.specs.declared.node.Operator.{Operator}
-use Rattle.problem.specs.declared.node.Operator.TheVariants as operator
 use Rattle.problem.specs.declared.node.Test.{Test}
 use Rattle.problem.specs.declared.node.Comparison.{Comparison}
 use Rattle.problem.specs.declared.node.Prefix.{Prefix}
@@ -18,14 +14,11 @@ use Rattle.problem.specs.declared.node.Quantifier.{Quantifier}
 use Rattle.problem.specs.declared.sort.Sort.{Sort}
 use Rattle.problem.specs.declared.sort.Sort.TheVariants as sort
 use Rattle.problem.specs.declared.sort.Misfit.{Misfit}
-use Rattle.problem.specs.declared.relation.Arity.{Arity}
-use Rattle.problem.specs.declared.relation.Arity.TheVariants as relation_arity
-use Rattle.problem.specs.Relations.{Declared, arity_number}
-use Rattle.problem.specs.Declarations.{arities}
 use Rattle.problem.specs.Sorts.{most_past, most_variables, sort_arity, sort_past, sort_bound, is_expression, is_formula, part_node, part_sort, expression, formula, from, constant_arity, suits, outcome, prefix_past, infix_past, shallow, relation_sort, judge, Judged, found, no_sort, node_at, sort_at, arity_at, bound_at}
 use Rattle.problem.specs.Sorts as sorts
 use Rattle.problem.specs.declared.problem.Problem.{Problem}
 use Rattle.problem.specs.Problems.{nodes_in, sorts_in}
+use Rattle.problem.proofs.Inversions.{fits, found_inv, part_in, ok_inv, relation_inv, turned_inv, next_inv, tested_inv, combined_inv, compared_inv, prefixed_inv, joined_inv, quantified_inv}
 use Rattle.meaning.specs.Formulas.{Expr, variable, constant, turned, next, combined, arity, Formula, tested, compared, prefixed, joined, quantified, depth}
 use Rattle.meaning.specs.Trees.{Places, relation_tree, expr_of, formula_of, expr_within, formula_within, expr_tree, formula_tree, places_in}
 use Rattle.meaning.specs.NodeLaws.{past_at}
@@ -41,27 +34,6 @@ sorted_in p = record {
   judged = p.draft.judged;
 }
 
-record Fits (b : Bool) (x y : Sort) : Type 0 where
-  pub met : b ≡ true
-  pub same : y ≡ x
-
-fits : (b : Bool) (x y : Sort) (m : Misfit) → cond b (Ok x) (Err m) ≡ Ok y → Fits b x y
-fits true x y m e = record { met = refl; same = cc }
-fits false x y m e = absurd (cc)
-
-found_inv : (r : Result Sort Misfit) (t : Sort) → found r t ≡ true → r ≡ Ok t
-found_inv (Ok (sort.Expression a b)) (sort.Expression c d) e =
-    let z = and_parts _ _ e in ap₂ (λ x y. Ok (expression x y)) (eqb-true _ _ z.0) (eqb-true _ _ z.1)
-found_inv (Ok (sort.Expression a b)) (sort.Formula q d) e = absurd (cc)
-found_inv (Ok (sort.Formula p b)) (sort.Expression c d) e = absurd (cc)
-found_inv (Ok (sort.Formula p b)) (sort.Formula q d) e =
-    let z = and_parts _ _ e in ap₂ (λ x y. Ok (formula x y)) (eqb-true _ _ z.0) (eqb-true _ _ z.1)
-found_inv (Err m) t e = absurd (cc)
-
-from_inv : (o : Option Sort) (k : Sort → Result Sort Misfit) (t : Sort) → from o k ≡ Ok t → (x : Sort) × (o ≡ Some x) × (k x ≡ Ok t)
-from_inv None k t e = absurd (cc)
-from_inv (Some x) k t e = (x, refl, e)
-
 -- a part that is found stands before the node
 record Part (ss : List Sort) (i a : ℕ) (k : Sort → Result Sort Misfit) (t : Sort) : Type 0 where
   pub before : a < i
@@ -69,11 +41,9 @@ record Part (ss : List Sort) (i a : ℕ) (k : Sort → Result Sort Misfit) (t : 
 
 part : (ss : List Sort) (i a : ℕ) (k : Sort → Result Sort Misfit) (t : Sort) → from (slice_get (take i ss) a) k ≡ Ok t → Part ss i a k t
 part ss i a k t e =
-    let f = from_inv (slice_get (take i ss) a) k t e in
-    let w : a < length (take i ss) = slice_get_within (take i ss) a f.0 f.1 in
-    let h : a < i = omega (arith, length-take i ss) in
-    let g : sort_at ss a ≡ f.0 = sym (get_or-take i ss a no_sort h) ∙ get_or_from_slice_get (take i ss) a f.0 no_sort f.1 in
-    record { before = h; rest = ap k g ∙ f.2 }
+    let f = part_in (take i ss) a k t e in
+    let h : a < i = omega (arith, f.within, length-take i ss) in
+    record { before = h; rest = ap k (sym (get_or-take i ss a no_sort h)) ∙ f.rest }
 
 record Parts (ss : List Sort) (i a b : ℕ) (k : Sort → Sort → Result Sort Misfit) (t : Sort) : Type 0 where
   pub left : a < i
@@ -254,127 +224,6 @@ module _ (s : Places) (ns : List Node) (ss : List Sort) (i : ℕ) where
     pub bound : bound_at ss i ≡ v
     pub tree : formula_tree s ns i ≡ quantified q v (expr_tree s ns a) (formula_tree s ns b)
 
-ok_inv : (x y : Sort) → ◌≡◌ {A = Result Sort Misfit} (Ok x) (Ok y) → y ≡ x
-ok_inv x y e = cc
-
-record OfRelation (rs : List ℕ) (r : ℕ) (t : Sort) : Type 0 where
-  pub declared : r < length rs
-  pub same : t ≡ expression (slice_index rs r) 0
-
-relation_inv : (rs : List ℕ) (r : ℕ) (o : Option ℕ) (t : Sort) → slice_get rs r ≡ o → relation_sort o ≡ Ok t → OfRelation rs r t
-relation_inv rs r None t e f = absurd (cc)
-relation_inv rs r (Some a) t e f =
-    let g : t ≡ expression a 0 = cc in
-    record {
-      declared = slice_get_within rs r a e;
-      same = g ∙ ap (λ x. expression x 0) (sym (get_or_from_slice_get rs r a 0 e));
-    }
-
--- what a part has to be, and what comes of it
-record OfTurned (x t : Sort) : Type 0 where
-  pub some : is_expression x ≡ true
-  pub pairs : sort_arity x ≡ 2
-  pub same : t ≡ expression 2 (sort_bound x)
-
-turned_inv : (x t : Sort) → sorts.turned_sort x ≡ Ok t → OfTurned x t
-turned_inv (sort.Expression a b) t e =
-    let f = fits _ (expression 2 b) t _ e in record { some = refl; pairs = eqb-true _ _ f.met; same = f.same }
-turned_inv (sort.Formula p b) t e = absurd (cc)
-
-record OfNext (x t : Sort) : Type 0 where
-  pub some : is_expression x ≡ true
-  pub same : t ≡ expression (sort_arity x) (sort_bound x)
-
-next_inv : (x t : Sort) → sorts.next_sort x ≡ Ok t → OfNext x t
-next_inv (sort.Expression a b) t e = record { some = refl; same = ok_inv _ _ e }
-next_inv (sort.Formula p b) t e = absurd (cc)
-
-record OfTested (x t : Sort) : Type 0 where
-  pub some : is_expression x ≡ true
-  pub same : t ≡ formula 0 (sort_bound x)
-
-tested_inv : (x t : Sort) → sorts.tested_sort x ≡ Ok t → OfTested x t
-tested_inv (sort.Expression a b) t e = record { some = refl; same = ok_inv _ _ e }
-tested_inv (sort.Formula p b) t e = absurd (cc)
-
-record OfCombined (o : Operator) (x y t : Sort) : Type 0 where
-  pub left : is_expression x ≡ true
-  pub right : is_expression y ≡ true
-  pub suited : suits o (sort_arity x) (sort_arity y) ≡ true
-  pub same : t ≡ expression (outcome o (sort_arity x) (sort_arity y)) (max (sort_bound x) (sort_bound y))
-
-combined_inv : (o : Operator) (x y t : Sort) → sorts.combined o x y ≡ Ok t → OfCombined o x y t
-combined_inv o (sort.Expression a b) (sort.Expression c d) t e =
-    let f = fits _ (expression (outcome o a c) (max b d)) t _ e in
-    record { left = refl; right = refl; suited = f.met; same = f.same }
-combined_inv o (sort.Expression a b) (sort.Formula q d) t e = absurd (cc)
-combined_inv o (sort.Formula p b) y t e = absurd (cc)
-
-record OfCompared (x y t : Sort) : Type 0 where
-  pub left : is_expression x ≡ true
-  pub right : is_expression y ≡ true
-  pub alike : sort_arity x ≡ sort_arity y
-  pub same : t ≡ formula 0 (max (sort_bound x) (sort_bound y))
-
-compared_inv : (x y t : Sort) → sorts.compared x y ≡ Ok t → OfCompared x y t
-compared_inv (sort.Expression a b) (sort.Expression c d) t e =
-    let f = fits _ (formula 0 (max b d)) t _ e in
-    record { left = refl; right = refl; alike = eqb-true _ _ f.met; same = f.same }
-compared_inv (sort.Expression a b) (sort.Formula q d) t e = absurd (cc)
-compared_inv (sort.Formula p b) y t e = absurd (cc)
-
-record Shallow (x t : Sort) : Type 0 where
-  pub few : sort_past x ≤ most_past
-  pub same : t ≡ x
-
-shallow_inv : (x t : Sort) → shallow x ≡ Ok t → Shallow x t
-shallow_inv x t e = let f = fits _ x t _ e in record { few = leb-true _ _ f.met; same = f.same }
-
-record OfPrefixed (d : ℕ) (x t : Sort) : Type 0 where
-  pub part : is_formula x ≡ true
-  pub shallow : Shallow (formula (sort_past x + d) (sort_bound x)) t
-
-prefixed_inv : (d : ℕ) (x t : Sort) → sorts.prefixed d x ≡ Ok t → OfPrefixed d x t
-prefixed_inv d (sort.Expression a b) t e = absurd (cc)
-prefixed_inv d (sort.Formula p b) t e = record { part = refl; shallow = shallow_inv _ t e }
-
-record OfJoined (d : ℕ) (x y t : Sort) : Type 0 where
-  pub left : is_formula x ≡ true
-  pub right : is_formula y ≡ true
-  pub shallow : Shallow (formula (max (sort_past x) (sort_past y) + d) (max (sort_bound x) (sort_bound y))) t
-
-joined_inv : (d : ℕ) (x y t : Sort) → sorts.joined d x y ≡ Ok t → OfJoined d x y t
-joined_inv d (sort.Expression a b) y t e = absurd (cc)
-joined_inv d (sort.Formula p b) (sort.Expression c e) t f = absurd (cc)
-joined_inv d (sort.Formula p b) (sort.Formula q c) t e = record { left = refl; right = refl; shallow = shallow_inv _ t e }
-
-record OfQuantified (v : ℕ) (x y t : Sort) : Type 0 where
-  pub domain : is_expression x ≡ true
-  pub body : is_formula y ≡ true
-  pub atoms : sort_arity x ≡ 1
-  pub few : v < most_variables
-  pub domain_bound : sort_bound x ≤ v
-  pub body_bound : sort_bound y ≤ suc v
-  pub same : t ≡ formula (sort_past y) v
-
-quantified_inv : (v : ℕ) (x y t : Sort) → sorts.quantified v x y ≡ Ok t → OfQuantified v x y t
-quantified_inv v (sort.Expression a b) (sort.Expression c d) t e = absurd (cc)
-quantified_inv v (sort.Expression a b) (sort.Formula p c) t e =
-    let f = fits _ (formula p v) t _ e in
-    let x = and_parts _ _ f.met in
-    let y = and_parts _ _ x.1 in
-    let z = and_parts _ _ y.1 in
-    record {
-      domain = refl;
-      body = refl;
-      atoms = eqb-true _ _ x.0;
-      few = ltb-true _ _ z.1;
-      domain_bound = leb-true _ _ y.0;
-      body_bound = leb-true _ _ z.0;
-      same = f.same;
-    }
-quantified_inv v (sort.Formula p b) y t e = absurd (cc)
-
 -- one lemma for each kind of node
 module _ {s : Places} {ns : List Node} {ss : List Sort} (S : Sorted s ns ss) (i : ℕ) (h : i < length ns) where
   pub relation_at : (r : ℕ) → node_at ns i ≡ node.Relation r → RelationAt s ns ss i r
@@ -525,62 +374,9 @@ module _ {s : Places} {ns : List Node} {ss : List Sort} (S : Sorted s ns ss) (i 
         tree = formula_tree_is S i h (node.Quantified q v a b) e;
       }
 
--- what has an arity is an expression, and no formula is one
-arity_of_some : (s : Sort) → 0 < sort_arity s → is_expression s ≡ true
-arity_of_some (sort.Expression a b) h = refl
-arity_of_some (sort.Formula p b) h = absurd (omega arith)
-
-pub some_arity : (ss : List Sort) (i : ℕ) → 0 < arity_at ss i → is_expression (sort_at ss i) ≡ true
-some_arity ss i h = arity_of_some (sort_at ss i) h
-
 not_both : (s : Sort) → is_formula s ≡ true → is_expression s ≡ true → ⊥
 not_both (sort.Expression a b) e f = cc
 not_both (sort.Formula p b) e f = cc
-
--- a relation has an arity, and so has an expression, where those of its parts have
-relation_some_of : (a : Arity) → 0 < arity_number a
-relation_some_of relation_arity.One = omega arith
-relation_some_of relation_arity.Two = omega arith
-
-pub relation_some : (rs : List Declared) (r : ℕ) → r < length (arities rs) → 0 < slice_index (arities rs) r
-relation_some [] r h = absurd (omega arith)
-relation_some (d ∷ rs) zero h = relation_some_of d.arity
-relation_some (d ∷ rs) (suc r) h = relation_some rs r (omega arith)
-
-constant_some : (c : Constant) → 0 < constant_arity c
-constant_some constants.Univ = omega arith
-constant_some constants.None = omega arith
-constant_some constants.Iden = omega arith
-
-outcome_some : (o : Operator) (x y : ℕ) → 0 < x → 0 < y → suits o x y ≡ true → 0 < outcome o x y
-outcome_some operator.Union x y h k e = h
-outcome_some operator.Difference x y h k e = h
-outcome_some operator.Intersection x y h k e = h
-outcome_some operator.Product x y h k e = omega arith
-outcome_some operator.Join x y h k e = let low : 3 ≤ x + y = leb-true _ _ (and_parts _ _ e).0 in omega arith
-
-module _ {s : Places} {ns : List Node} {ss : List Sort} (S : Sorted s ns ss) (own : (r : ℕ) → r < length s.arities → 0 < slice_index s.arities r) where
-  some_step : (i : ℕ) → i < length ns → ((a : ℕ) → a < i → is_expression (sort_at ss a) ≡ true → 0 < arity_at ss a) → (n : Node) → node_at ns i ≡ n → is_expression (sort_at ss i) ≡ true → 0 < arity_at ss i
-  some_step i h q (node.Relation r) e k = let p = relation_at S i h r e in omega (arith, own r p.declared, p.own)
-  some_step i h q (node.Variable v) e k = let p = variable_at S i h v e in omega (arith, p.own)
-  some_step i h q (node.Constant c) e k = let p = constant_at S i h c e in omega (arith, constant_some c, p.own)
-  some_step i h q (node.Turned t a) e k = let p = turned_at S i h t a e in omega (arith, p.own)
-  some_step i h q (node.Next a) e k = let p = next_at S i h a e in omega (arith, q a p.before p.some, p.own)
-  some_step i h q (node.Combined o a b) e k =
-      let p = combined_at S i h o a b e in
-      omega (arith, outcome_some o (arity_at ss a) (arity_at ss b) (q a p.left p.some_left) (q b p.right p.some_right) p.suited, p.own)
-  some_step i h q (node.Tested o a) e k = absurd (not_both _ (tested_at S i h o a e).own k)
-  some_step i h q (node.Compared c a b) e k = absurd (not_both _ (compared_at S i h c a b e).own k)
-  some_step i h q (node.Prefixed w a) e k = absurd (not_both _ (prefixed_at S i h w a e).own k)
-  some_step i h q (node.Joined w a b) e k = absurd (not_both _ (joined_at S i h w a b e).own k)
-  some_step i h q (node.Quantified o v a b) e k = absurd (not_both _ (quantified_at S i h o v a b e).own k)
-
-  some_below : (m i : ℕ) → i < m → i < length ns → is_expression (sort_at ss i) ≡ true → 0 < arity_at ss i
-  some_below zero i l h k = absurd (omega arith)
-  some_below (suc m) i l h k = some_step i h (λ a x. some_below m a (omega arith) (omega arith)) (node_at ns i) refl k
-
-  pub expression_some : (i : ℕ) → i < length ns → is_expression (sort_at ss i) ≡ true → 0 < arity_at ss i
-  expression_some i h k = some_below (suc i) i (omega arith) h k
 
 -- the tree of an expression has the arity of its sort, where those of its parts have
 arity_step : {s : Places} {ns : List Node} {ss : List Sort} → Sorted s ns ss → (i : ℕ) → i < length ns → ((a : ℕ) → a < i → is_expression (sort_at ss a) ≡ true → arity (expr_tree s ns a) ≡ arity_at ss a) → (n : Node) → node_at ns i ≡ n → is_expression (sort_at ss i) ≡ true → arity (expr_tree s ns i) ≡ arity_at ss i

@@ -5,7 +5,7 @@ use Rattle.problem.specs.declared.node.Node.TheVariants as node
 use Rattle.problem.specs.declared.node.Constant.TheVariants as constants
 use Rattle.problem.specs.declared.node.Test.TheVariants as test
 use Rattle.problem.specs.declared.problem.Problem.{Problem}
-use Rattle.problem.specs.Declarations.{arities}
+use Rattle.relations.specs.Declarations.{arities}
 use Rattle.problem.specs.Sorts.{node_at}
 use Rattle.problem.specs.Problems.{relations_in, sizes_in, nodes_in}
 use Rattle.meaning.specs.Formulas.{Expr, relation, variable, constant, turned, next, combined, Formula, tested, compared, prefixed, joined, quantified}

@@ -5,8 +5,8 @@ use Rattle.std.proofs.lemmas.List.Sums.{sum_by_more, sum_by-take-le}
 use Rattle.std.proofs.lemmas.Bool.{cases_lt, cases_order}
 use Rattle.problem.specs.declared.problem.Problem.{Problem}
 use Rattle.problem.specs.Problems.{atoms_in, relations_in, sizes_in}
-use Rattle.problem.specs.Free.{declared_size}
-use Rattle.problem.specs.Relations.{declared_of}
+use Rattle.relations.specs.Free.{declared_size}
+use Rattle.relations.specs.Relations.{declared_of}
 use Rattle.places.specs.declared.numbers.Tuple.{Tuple}
 use Rattle.places.specs.Places.{before, place_count, place_of, place_of_tuple}
 

@@ -2,11 +2,11 @@
 use Rattle.std.specs.Prelude.{◌≡◌, ℕ, Bool, true, false, List, [], Some, slice_index_or}
 use Rattle.lasso.specs.declared.value.Value.{Value}
 use Rattle.lasso.specs.declared.value.Value.TheVariants.{No}
-use Rattle.problem.specs.declared.relation.Mutability.{Mutability}
-use Rattle.problem.specs.declared.relation.Mutability.TheVariants.{Fixed, Mutable}
-use Rattle.problem.specs.declared.relation.Arity.TheVariants.{One}
+use Rattle.relations.specs.declared.relation.Mutability.{Mutability}
+use Rattle.relations.specs.declared.relation.Mutability.TheVariants.{Fixed, Mutable}
+use Rattle.relations.specs.declared.relation.Arity.TheVariants.{One}
 use Rattle.problem.specs.declared.problem.Problem.{Problem}
-use Rattle.problem.specs.Relations.{Declared}
+use Rattle.relations.specs.Relations.{Declared}
 use Rattle.problem.specs.Problems.{relations_in, sizes_in}
 use Rattle.places.specs.declared.numbers.Tuple.{Tuple}
 use Rattle.places.specs.Places.{place_of_tuple}

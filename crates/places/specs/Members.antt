@@ -1,7 +1,7 @@
 -- The atoms of a tuple, for src/members. Assumes nothing.
 use Rattle.std.specs.Prelude.{◌≡◌, ℕ, ◌+◌, ◌*◌, ◌<◌}
-use Rattle.problem.specs.declared.relation.Arity.{Arity}
-use Rattle.problem.specs.declared.relation.Arity.TheVariants as arity
+use Rattle.relations.specs.declared.relation.Arity.{Arity}
+use Rattle.relations.specs.declared.relation.Arity.TheVariants as arity
 use Rattle.places.specs.declared.members.Members.{Members}
 use Rattle.places.specs.declared.members.Members.TheVariants.{One, Two}
 

@@ -1,13 +1,14 @@
 ghost use Rattle.std.specs.Prelude.{◌≡◌, ◌≤◌, map, MatchOption, slice_index_or};
 ghost use Rattle.lasso.specs.declared.value.Value.TheVariants.{No};
-ghost use Rattle.problem.specs.Relations.{declared_of};
+ghost use Rattle.relations.specs.Relations.{declared_of};
 ghost use Rattle.problem.specs.Problems.{sizes_in};
 ghost use Rattle.places.specs.Places.{place_count};
 ghost use Rattle.places.specs.Asked.{fixed, relation_at, FixedAt, BoundAt};
 
 use super::numbers::{Tuple, at_place};
 use lasso::Value;
-use problem::{Mutability, Problem, Relation};
+use problem::Problem;
+use relations::{Mutability, Relation};
 
 // Whether the relation of a place is fixed; none from the place count on.
 pub fn is_fixed(problem: &Problem, place: usize) -> Option<bool>

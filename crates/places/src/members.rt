@@ -1,12 +1,13 @@
 ghost use Rattle.std.specs.Prelude.{◌≡◌, ◌*◌, ◌<◌, ◌≤◌, map, length, MatchOption, slice_index};
-ghost use Rattle.problem.specs.Free.{size_of};
-ghost use Rattle.problem.specs.Relations.{declared_of};
+ghost use Rattle.relations.specs.Free.{size_of};
+ghost use Rattle.relations.specs.Relations.{declared_of};
 ghost use Rattle.problem.specs.Problems.{atoms_in, relations_in, sizes_in};
 ghost use Rattle.places.specs.Asked.{relation_at};
 ghost use Rattle.places.specs.Members.{AtomsAre, Pair};
 
 use super::numbers::Tuple;
-use problem::{Arity, Problem, Relation};
+use problem::Problem;
+use relations::{Arity, Relation};
 
 // The atoms of a tuple, by their numbers.
 #[derive(Clone, Copy)]

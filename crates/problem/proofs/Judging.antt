@@ -1,6 +1,6 @@
 -- What each node is found to be, one node more at a time.
-use Rattle.std.proofs.Common.{◌≡◌, ℕ, zero, suc, ◌+◌, ◌<◌, ◌≤◌, Bool, true, false, cond, ◌&&◌, leb, List, [], ◌∷◌, ◌++◌, length, map, take, IfOk, Ok, Err, Result, sym, refl, ap, ◌∙◌, subst, inl, inr, arith, eq-eqb, leb-true}
-use Rattle.std.proofs.lemmas.Bool.{cases_lt}
+use Rattle.std.proofs.Common.{◌≡◌, ℕ, zero, suc, ◌+◌, ◌<◌, ◌≤◌, Bool, true, false, ◌&&◌, leb, List, [], ◌∷◌, ◌++◌, length, map, take, Ok, Err, Result, sym, refl, ap, ◌∙◌, subst, inl, inr, arith, eq-eqb, leb-true, lt-ltb}
+use Rattle.std.proofs.lemmas.Bool.{cases_lt, and_parts}
 use Rattle.std.proofs.lemmas.List.{take-append-le, take_at, get_or_append_left, get_or_push, length_push, length-map, map_push}
 use Rattle.std.specs.List.{slice_get}
 use Rattle.std.specs.Option.{option_map_or}
@@ -9,11 +9,14 @@ use Rattle.problem.specs.declared.node.Node.TheVariants as node
 use Rattle.problem.specs.declared.sort.Sort.{Sort}
 use Rattle.problem.specs.declared.sort.Sort.TheVariants as sort
 use Rattle.problem.specs.declared.sort.Kind.{Kind}
+use Rattle.problem.specs.declared.sort.Kind.TheVariants as kind
 use Rattle.problem.specs.declared.sort.Misfit.{Misfit}
 use Rattle.problem.specs.declared.part.Part.{Part}
 use Rattle.problem.specs.declared.draft.Draft.{Draft}
-use Rattle.problem.specs.Sorts.{part_node, part_sort, judge, found, node_at, sort_at, no_sort, Judged, arity_at, sort_arity, sort_bound, of_kind, wanted, most_parts}
-use Rattle.problem.specs.Drafts.{sorts_of, arities_of, Placed}
+use Rattle.problem.specs.Sorts.{part_node, part_sort, judge, found, node_at, sort_at, no_sort, Judged, arity_at, sort_arity, sort_bound, of_kind, arity_of_kind, arity_found, wanted}
+use Rattle.problem.specs.Drafts.{sorts_of, arities_of}
+use Rattle.problem.proofs.Arities.{Sized, put_sized}
+use Rattle.problem.proofs.Inversions.{fits}
 
 both : (a b : Bool) → a ≡ true → b ≡ true → (a && b) ≡ true
 both true b p q = q
@@ -46,16 +49,6 @@ judged_parts rs ps p J e =
     let L = subst (λ (ss : List Sort). Judged rs (map part_node ps ++ p.node ∷ []) ss) (sym (map_push part_sort ps p)) K in
     subst (λ (ns : List Node). Judged rs ns (map part_sort (ps ++ p ∷ []))) (sym (map_push part_node ps p)) L
 
-record Fitted (x y : Bool) (t s : Sort) : Type 0 where
-  pub first : x ≡ true
-  pub second : y ≡ true
-  pub same : t ≡ s
-
-fitted : (x y : Bool) (t s : Sort) (m : Misfit) → cond (x && y) (Ok t) (Err m) ≡ Ok s → Fitted x y t s
-fitted true true t s m e = record { first = refl; second = refl; same = cc }
-fitted true false t s m e = absurd (let z : ◌≡◌ {A = ℕ} 0 1 = cc in omega arith)
-fitted false y t s m e = absurd (let z : ◌≡◌ {A = ℕ} 0 1 = cc in omega arith)
-
 pub record Wanted (k : Kind) (b : ℕ) (j : Result Sort Misfit) (s : Sort) : Type 0 where
   pub judged : j ≡ Ok s
   pub is_of_kind : of_kind k s ≡ true
@@ -63,19 +56,31 @@ pub record Wanted (k : Kind) (b : ℕ) (j : Result Sort Misfit) (s : Sort) : Typ
 
 pub wanted_inv : (k : Kind) (b : ℕ) (j : Result Sort Misfit) (s : Sort) → wanted k b j ≡ Ok s → Wanted k b j s
 wanted_inv k b (Ok t) s e =
-    let f = fitted (of_kind k t) (leb (sort_bound t) b) t s _ e in
+    let f = fits (of_kind k t && leb (sort_bound t) b) t s _ e in
+    let z = and_parts _ _ f.met in
     record {
-      judged = ap Ok f.same;
-      is_of_kind = ap (of_kind k) (sym f.same) ∙ f.first;
-      few = leb-true _ _ (ap (λ (x : Sort). leb (sort_bound x) b) (sym f.same) ∙ f.second);
+      judged = ap Ok (sym f.same);
+      is_of_kind = ap (of_kind k) f.same ∙ z.0;
+      few = leb-true _ _ (ap (λ (x : Sort). leb (sort_bound x) b) f.same ∙ z.1);
     }
 wanted_inv k b (Err m) s e = absurd (let z : ◌≡◌ {A = ℕ} 0 1 = cc in omega arith)
 
-pub fits_made : (k : Kind) (b : ℕ) (n : Node) (d : Draft) (r : Result Sort Misfit) → length (sorts_of d) < most_parts → r ≡ wanted k b (judge (arities_of d) (sorts_of d) n) → IfOk r (λ s. Placed k b n d s)
-fits_made k b n d (Ok s) h e =
-    let w = wanted_inv k b (judge (arities_of d) (sorts_of d) n) s (sym e) in
-    record { room = h; judged = w.judged; is_of_kind = w.is_of_kind; few = w.few }
-fits_made k b n d (Err m) h e = tt
+-- a sort of a kind has the arity of that kind, where expressions have one
+kind_arity : (k : Kind) (s : Sort) → of_kind k s ≡ true → Sized s → arity_of_kind k s ≡ true
+kind_arity kind.Formula (sort.Expression a b) e z = absurd (cc)
+kind_arity kind.Formula (sort.Formula p b) e z = refl
+kind_arity kind.Expression (sort.Expression a b) e z = lt-ltb 0 a (z refl)
+kind_arity kind.Expression (sort.Formula p b) e z = absurd (cc)
+
+-- what a node at the end of a draft is found to be has an arity of the kind that is wanted
+wanted_arity : (k : Kind) (b : ℕ) (n : Node) (d : Draft) (r : Result Sort Misfit) → wanted k b (judge (arities_of d) (sorts_of d) n) ≡ r → arity_found k r ≡ true
+wanted_arity k b n d (Ok s) e =
+    let w = wanted_inv k b (judge (arities_of d) (sorts_of d) n) s e in
+    kind_arity k s w.is_of_kind (put_sized d n s w.judged)
+wanted_arity k b n d (Err m) e = refl
+
+pub arity_made : (k : Kind) (b : ℕ) (n : Node) (d : Draft) → arity_found k (wanted k b (judge (arities_of d) (sorts_of d) n)) ≡ true
+arity_made k b n d = wanted_arity k b n d _ refl
 
 pub arity_known : (ss : List Sort) (i : ℕ) → arity_at ss i ≡ option_map_or sort_arity (slice_get ss i) 0
 arity_known [] i = refl

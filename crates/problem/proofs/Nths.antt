@@ -1,11 +1,9 @@
 -- What stands at an index of the list of arities.
-use Rattle.std.proofs.Common.{◌≡◌, ℕ, zero, suc, ◌<◌, ◌≤◌, List, [], ◌∷◌, map, length, get_or, Some, None, Option, refl, sym, ap, ◌∙◌, arith}
-use Rattle.std.specs.Option.{MatchOption}
+use Rattle.std.proofs.Common.{◌≡◌, ℕ, zero, suc, ◌<◌, ◌≤◌, List, [], ◌∷◌, map, length, get_or, Some, None, refl, sym, ap, ◌∙◌, arith}
 use Rattle.std.specs.List.{slice_get}
-use Rattle.problem.specs.declared.relation.Relation.{Relation}
-use Rattle.problem.specs.Relations.{declared_of, arity_number}
-use Rattle.problem.specs.Declarations.{arities}
-use Rattle.problem.specs.Free.{size_of, sizes}
+use Rattle.relations.specs.declared.relation.Relation.{Relation}
+use Rattle.relations.specs.Relations.{declared_of, arity_number}
+use Rattle.relations.specs.Declarations.{arities}
 
 pub nth_arities : (rs : List Relation) (i : ℕ) (d : Relation) → i < length rs → slice_get (arities (map declared_of rs)) i ≡ Some (arity_number (get_or rs i d).arity)
 nth_arities [] i d h = absurd (omega arith)
@@ -17,24 +15,6 @@ no_arity [] i h = refl
 no_arity (r ∷ rs) zero h = absurd (omega arith)
 no_arity (r ∷ rs) (suc i) h = no_arity rs i (omega arith)
 
-pub size_is : (n : ℕ) (rs : List Relation) (i : ℕ) (d : Relation) → i < length rs → get_or (sizes n (map declared_of rs)) i 0 ≡ size_of n (get_or rs i d).arity
-size_is n [] i d h = absurd (omega arith)
-size_is n (r ∷ rs) zero d h = refl
-size_is n (r ∷ rs) (suc i) d h = size_is n rs i d (omega arith)
-
-pub no_size : (n : ℕ) (rs : List Relation) (i : ℕ) → length rs ≤ i → get_or (sizes n (map declared_of rs)) i 0 ≡ 0
-no_size n [] i h = refl
-no_size n (r ∷ rs) zero h = absurd (omega arith)
-no_size n (r ∷ rs) (suc i) h = no_size n rs i (omega arith)
-
 -- the same, by the relation that was read there
 pub arity_got : (rs : List Relation) (i : ℕ) (r : Relation) → i < length rs → r ≡ get_or rs i r → slice_get (arities (map declared_of rs)) i ≡ Some (arity_number r.arity)
 arity_got rs i r h e = nth_arities rs i r h ∙ ap (λ (x : Relation). Some (arity_number x.arity)) (sym e)
-
-pub size_got : (n : ℕ) (rs : List Relation) (i : ℕ) (r : Relation) → i < length rs → r ≡ get_or rs i r → get_or (sizes n (map declared_of rs)) i 0 ≡ size_of n r.arity
-size_got n rs i r h e = size_is n rs i r h ∙ ap (λ (x : Relation). size_of n x.arity) (sym e)
-
--- what is shown of a default and of a function of what is there is shown of `map_or`
-pub matched : {T : Type 0} (o : Option T) (P : Type 0) (Q : T → Type 0) (G : Type 0) → MatchOption o P Q → (o ≡ None → P → G) → ((x : T) → o ≡ Some x → Q x → G) → G
-matched None P Q G m n s = n refl m
-matched (Some x) P Q G m n s = s x refl m

@@ -4,10 +4,10 @@ use Rattle.problem.specs.declared.node.Node.{Node}
 use Rattle.problem.specs.declared.sort.Sort.{Sort}
 use Rattle.problem.specs.declared.sort.Kind.{Kind}
 use Rattle.problem.specs.declared.sort.Misfit.{Misfit}
-use Rattle.problem.specs.declared.signature.Signature.{Signature}
+use Rattle.relations.specs.declared.signature.Signature.{Signature}
 use Rattle.problem.specs.declared.draft.Draft.{Draft}
-use Rattle.problem.specs.Declarations.{atoms_of, relations_of, arities}
-use Rattle.problem.specs.Sorts.{most_parts, part_node, part_sort, sort_bound, judge, placed, of_kind, sort_at, bound_at}
+use Rattle.relations.specs.Declarations.{atoms_of, relations_of, arities}
+use Rattle.problem.specs.Sorts.{most_parts, part_node, part_sort, sort_bound, judge, placed, of_kind, arity_of_kind, sort_at, bound_at}
 
 abbrev pub nodes_of : Draft → List Node
 nodes_of d = map part_node (vec_items d.parts)
@@ -46,10 +46,11 @@ pub record Kept (before after : Draft) : Type 0 where
   pub relations : relations_of after.signature.declared ≡ relations_of before.signature.declared
   pub horizon : after.signature.horizon ≡ before.signature.horizon
 
--- the last node is of a kind, and uses at most so many variables
+-- the last node is of a kind, has an arity of that kind, and uses at most so many variables
 pub record Last (kind : Kind) (bound : ℕ) (after : Draft) (i : ℕ) : Type 0 where
   pub index : i + 1 ≡ length (nodes_of after)
   pub is_of_kind : of_kind kind (sort_at (sorts_of after) i) ≡ true
+  pub arity : arity_of_kind kind (sort_at (sorts_of after) i) ≡ true
   pub few : bound_at (sorts_of after) i ≤ bound
 
 -- what a node would be, where it fits

@@ -5,11 +5,12 @@ use Rattle.problem.specs.declared.node.Node.TheVariants as node
 use Rattle.problem.specs.declared.node.Constant.TheVariants as constant
 use Rattle.problem.specs.declared.node.Test.TheVariants as test
 use Rattle.problem.specs.declared.sort.Sort.{Sort}
+use Rattle.relations.specs.declared.declarations.Declarations.{Declarations}
 use Rattle.problem.specs.declared.draft.Draft.{Draft}
 use Rattle.problem.specs.declared.problem.Problem.{Problem}
-use Rattle.problem.specs.Relations.{Declared}
-use Rattle.problem.specs.Declarations.{atoms_of, relations_of}
-use Rattle.problem.specs.Free.{sizes}
+use Rattle.relations.specs.Relations.{Declared}
+use Rattle.relations.specs.Declarations.{atoms_of, relations_of}
+use Rattle.relations.specs.Free.{sizes}
 use Rattle.problem.specs.Drafts.{nodes_of, sorts_of}
 use Rattle.problem.specs.Sorts.{expression, formula}
 
@@ -44,6 +45,11 @@ pub record Filled (d : Draft) (p : Problem) : Type 0 where
   pub signature : p.draft.signature ≡ d.signature
   pub nodes : nodes_in p ≡ no_none
   pub sorts : sorts_in p ≡ no_none_sorts
+
+-- the atom `a` and no relation
+pub record OneAtom (d : Declarations) : Type 0 where
+  pub atoms : atoms_of d ≡ (97 ∷ []) ∷ []
+  pub relations : relations_of d ≡ []
 
 -- one atom `a`, no relation, one state, and the formula `no none`
 pub record Fresh (p : Problem) : Type 0 where

@@ -179,6 +179,16 @@ abbrev pub of_kind : Kind → Sort → Bool
 of_kind kind.Formula s = is_formula s
 of_kind kind.Expression s = is_expression s
 
+-- whether a sort has an arity of a kind: none of a formula, one above 0 of an expression
+abbrev pub arity_of_kind : Kind → Sort → Bool
+arity_of_kind kind.Formula s = sort_arity s == 0
+arity_of_kind kind.Expression s = nat_lt 0 (sort_arity s)
+
+-- whether what was found, if so, has an arity of a kind
+abbrev pub arity_found : Kind → Result Sort Misfit → Bool
+arity_found k (Ok s) = arity_of_kind k s
+arity_found k (Err m) = true
+
 -- a node of that kind, which uses at most so many variables
 abbrev pub wanted : Kind → ℕ → Result Sort Misfit → Result Sort Misfit
 wanted k b (Ok s) = fitting (of_kind k s && nat_le (sort_bound s) b) s

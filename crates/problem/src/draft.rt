@@ -1,9 +1,9 @@
 ghost use Rattle.std.specs.Prelude.{◌≡◌, ◌≤◌, map, vec_len, vec_capacity};
 ghost use Rattle.problem.specs.Sorts.{part_node, part_sort, Judged};
-ghost use Rattle.problem.specs.Declarations.{relations_of, arities};
+ghost use Rattle.relations.specs.Declarations.{relations_of, arities};
 
 use super::part::Part;
-use super::signature::Signature;
+use relations::Signature;
 
 mod calls;
 

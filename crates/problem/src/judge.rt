@@ -1,14 +1,14 @@
 ghost use Rattle.std.specs.Prelude.{◌≡◌, ◌+◌, ◌≤◌, None, MatchResult, map};
 ghost use Rattle.std.specs.List.{slice_get};
 ghost use Rattle.problem.specs.declared.sort.Misfit.TheVariants.{Arity};
-ghost use Rattle.problem.specs.Relations.{declared_of};
-ghost use Rattle.problem.specs.Declarations.{arities};
+ghost use Rattle.relations.specs.Relations.{declared_of};
+ghost use Rattle.relations.specs.Declarations.{arities};
 ghost use Rattle.problem.specs.Sorts.{part_sort, expression as expression_of, formula as formula_of, shallow as shallow_of, prefixed as prefixed_of, prefix_past, joined as joined_of, infix_past, combined as combined_of, compared as compared_of, quantified as quantified_of, relation_sort, variable_sort, turned_sort, next_sort, tested_sort, judge as judge_of, wanted as wanted_of};
 
 use super::node::{Infix, Node, Operator, Prefix};
 use super::part::Part;
-use super::relation::Relation;
 use super::sort::{Kind, MOST_PAST, MOST_VARIABLES, Misfit, Sort};
+use relations::Relation;
 
 // What a node is, given the relations and the parts before it.
 pub(crate) fn judge(node: Node, relations: &[Relation], parts: &[Part]) -> Result<Sort, Misfit>

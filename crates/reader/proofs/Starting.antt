@@ -2,10 +2,10 @@
 use Rattle.std.proofs.Common.{◌≡◌, ℕ, [], length, map, reverse, Ok, Err, Result, IfOk, refl, sym}
 use Rattle.std.proofs.lemmas.List.{nil_from_length}
 use Rattle.faults.specs.declared.Fault.{Fault}
-use Rattle.problem.specs.declared.declarations.Declarations.{Declarations}
-use Rattle.problem.specs.declared.signature.Signature.{Signature}
+use Rattle.relations.specs.declared.declarations.Declarations.{Declarations}
+use Rattle.relations.specs.declared.signature.Signature.{Signature}
 use Rattle.problem.specs.declared.draft.Draft.{Draft}
-use Rattle.problem.specs.Declarations.{atoms_of, relations_of}
+use Rattle.relations.specs.Declarations.{atoms_of, relations_of}
 use Rattle.problem.specs.Drafts.{Begun}
 use Rattle.problem.specs.Sorts.{Whole}
 use Rattle.tokens.specs.Cursors.{Cursor}

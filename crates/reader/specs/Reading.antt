@@ -5,7 +5,7 @@ use Rattle.faults.specs.declared.Fault.TheVariants.{TextTooLong}
 use Rattle.problem.specs.declared.node.Node.{Node}
 use Rattle.problem.specs.declared.sort.Sort.{Sort}
 use Rattle.problem.specs.declared.problem.Problem.{Problem}
-use Rattle.problem.specs.Relations.{Declared}
+use Rattle.relations.specs.Relations.{Declared}
 use Rattle.problem.specs.Problems.{atoms_in, relations_in, horizon_of, nodes_in, sorts_in}
 use Rattle.tokens.specs.declared.mark.Mark.TheVariants as mark
 use Rattle.tokens.specs.Cursors.{Cursor, cursor_of}

@@ -1,8 +1,9 @@
 ghost use Rattle.std.specs.Prelude.{◌≡◌, length};
-ghost use Rattle.problem.specs.Declarations.{atoms_of, relations_of};
+ghost use Rattle.relations.specs.Declarations.{atoms_of, relations_of};
 
 use formulas::Scope;
-use problem::{Declarations, Room};
+use problem::Room;
+use relations::Declarations;
 
 mod calls;
 

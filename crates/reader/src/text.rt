@@ -12,7 +12,8 @@ use super::space::Space;
 use declaring::{MOST_TEXT, Reader, read_horizon};
 use faults::Fault;
 use formulas::{Bracket, MOST_BRACKETS, MOST_LEVELS, Parser, Scope, Sketch};
-use problem::{Declarations, Draft, Problem, Room, Signature};
+use problem::{Draft, Problem, Room};
+use relations::{Declarations, Signature};
 use stack::Stack;
 use tokens::{Mark, Tokens};
 

@@ -2,7 +2,7 @@ ghost use Rattle.std.specs.Prelude.{◌≡◌, Some};
 ghost use Rattle.declaring.specs.Sets.{listed, nothing, noted, earlier, outside_at, outside as outside_of};
 
 use super::Tuples;
-use problem::{MOST_TUPLES, TupleSet};
+use relations::{MOST_TUPLES, TupleSet};
 
 impl Tuples {
     // No tuple.

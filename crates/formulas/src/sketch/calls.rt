@@ -1,6 +1,4 @@
-ghost use Rattle.std.specs.Prelude.{◌≡◌, ℕ, ◌||◌, map, is_some, nat_lt};
-ghost use Rattle.names.specs.Lookups.{index_of};
-ghost use Rattle.problem.specs.Declarations.{atoms_of, relations_of, declared_name};
+ghost use Rattle.std.specs.Prelude.{◌≡◌, nat_lt};
 ghost use Rattle.names.specs.Names.{spelling};
 ghost use Rattle.problem.specs.Sorts.{most_variables};
 ghost use Rattle.formulas.specs.Bodies.{body, begun};
@@ -11,7 +9,7 @@ use super::super::wish::{Wish, ask};
 use super::{Scope, Sketch, Variable};
 use faults::Fault;
 use names::{Name, Named, lookup};
-use problem::{Constant, Declarations, Draft, Kind, MOST_PARTS, MOST_VARIABLES, Misfit, Node};
+use problem::{Constant, Draft, Kind, MOST_PARTS, MOST_VARIABLES, Misfit, Node};
 use std::alloc::{AllocError, Global};
 
 impl Named for Variable {
@@ -163,18 +161,20 @@ impl Sketch {
     }
 
     // Whether a name is that of an atom, a relation or a variable in scope.
-    fn knows(&self, name: &[u8]) -> bool
-        ensures { result ≡ known name.now (body self.now) }
+    #[tactic(auto, using(crate::proofs::Knowing::known_from), unfolding(crate::specs::Bodies::body))]
+    fn knows(&self, name: Name) -> bool
+        ensures { result ≡ known (spelling name) (body self.now) }
     {
-        declares(self.draft.signature().declared(), name)
-            || lookup(self.scope.as_slice(), name).is_some()
+        self.draft.signature().declared().declares(name)
+            || lookup(self.scope.as_slice(), name.as_bytes()).is_some()
     }
 
     // Whether a name may be bound: it is not known, and there may be one variable more.
+    #[tactic(auto, unfolding(crate::specs::Bodies::body, crate::specs::Outcomes::bindable))]
     pub fn bindable(&self, name: Name, place: usize) -> Result<(), Fault>
         ensures { result ≡ bindable (spelling name) place (body self.now) }
     {
-        judge_name(self.knows(name.as_bytes()), self.scope.len(), place)
+        judge_name(self.knows(name), self.scope.len(), place)
     }
 
     // Brings a variable into scope, and answers its number.
@@ -196,13 +196,6 @@ impl Sketch {
     {
         let _ = self.scope.pop();
     }
-}
-
-// Whether a name is that of an atom or a relation.
-fn declares(declared: &Declarations, name: &[u8]) -> bool
-    ensures { result ≡ (is_some (index_of name.now (atoms_of declared.now)) || is_some (index_of name.now (map declared_name (relations_of declared.now)))) }
-{
-    lookup(declared.atoms(), name).is_some() || lookup(declared.relations(), name).is_some()
 }
 
 // Whether there may be one variable more.

@@ -1,14 +1,14 @@
-ghost use Rattle.std.specs.Prelude.{◌≡◌, ◌≤◌, map, length, IfOk, Decides, MatchResult};
+ghost use Rattle.std.specs.Prelude.{◌≡◌, ◌≤◌, true, map, length, IfOk, Decides, MatchResult};
 ghost use Rattle.std.specs.List.{slice_get};
-ghost use Rattle.problem.specs.Sorts.{part_node, part_sort, placed as placed_of, arity_at, Whole};
+ghost use Rattle.problem.specs.Sorts.{part_node, part_sort, placed as placed_of, arity_at, arity_of_kind, arity_found, Whole};
 ghost use Rattle.problem.specs.Drafts.{nodes_of, sorts_of, arities_of, Begun, Put, NotPut, Kept, Last, Placed, Added};
 
 use super::super::judge::{judge, wanted};
 use super::super::node::Node;
 use super::super::part::Part;
-use super::super::signature::Signature;
 use super::super::sort::{Kind, Misfit, Sort};
 use super::{Draft, MOST_PARTS, Room};
+use relations::Signature;
 use std::alloc::{AllocError, Global};
 
 impl Room {
@@ -82,10 +82,11 @@ impl Draft {
 }
 
 // What a node at the end would be.
-#[tactic(auto, using(crate::proofs::Judging::fits_made))]
+#[tactic(auto, using(crate::proofs::Judging::arity_made))]
 fn placed(draft: &Draft, kind: Kind, node: Node, bound: usize) -> Result<Sort, Misfit>
     ensures value { result ≡ placed_of (arities_of draft.now) (sorts_of draft.now) kind bound node }
     ensures fits { IfOk result (λ s. Placed kind bound node draft.now s) }
+    ensures arity { arity_found kind result ≡ true }
 {
     if draft.parts.len() >= MOST_PARTS {
         return Err(Misfit::Room);
@@ -100,7 +101,8 @@ fn placed(draft: &Draft, kind: Kind, node: Node, bound: usize) -> Result<Sort, M
 
 // Puts a node that fits at the end.
 fn add(draft: &mut Draft, kind: Kind, bound: usize, part: Part) -> usize
-    requires { Placed kind bound part.node draft.old part.sort }
+    requires fits { Placed kind bound part.node draft.old part.sort }
+    requires arity { arity_of_kind kind part.sort ≡ true }
     ensures { Added kind bound part.node part.sort draft.old draft.new result }
 {
     let at = draft.parts.len();

@@ -1,18 +1,17 @@
 ghost use Rattle.std.specs.Prelude.{◌≡◌, ◌+◌, ◌≤◌, true, map, length, MatchOption, slice_index};
 ghost use Rattle.std.specs.List.{slice_get};
-ghost use Rattle.problem.specs.Relations.{atom_name, relation_name, declared_of};
-ghost use Rattle.problem.specs.Declarations.{declared_name};
-ghost use Rattle.problem.specs.Free.{free_places};
+ghost use Rattle.relations.specs.Relations.{atom_name, relation_name, declared_of};
+ghost use Rattle.relations.specs.Declarations.{declared_name};
+ghost use Rattle.relations.specs.Free.{free_places};
 ghost use Rattle.problem.specs.Sorts.{part_node, part_sort, is_formula, sort_at, bound_at, Whole};
 ghost use Rattle.problem.specs.Drafts.{sorts_of};
 ghost use Rattle.problem.specs.Problems.{atoms_in, relations_in, sizes_in, horizon_of, nodes_in, sorts_in};
 
 use super::super::draft::Draft;
-use super::super::free::Scope;
 use super::super::part::Part;
-use super::super::relation::{Atom, Relation};
 use super::super::sort::Sort;
 use super::Problem;
+use relations::{Atom, Relation};
 
 impl Draft {
     // The problem of the formula that the last node is, if it is one and uses no variable.
@@ -52,7 +51,7 @@ impl Problem {
         ensures value { result ≡ slice_index (sizes_in self.now) relation }
         ensures few { result ≤ 64 }
     {
-        Scope::new(self.atoms().len(), self.horizon()).size_at(self.relations(), relation)
+        self.draft.signature().size(relation)
     }
 
     // The most states of a trace that is searched for, 1 to 8.
@@ -95,6 +94,6 @@ impl Problem {
         ensures value { result ≡ free_places (length (atoms_in self.now)) (relations_in self.now) (horizon_of self.now) }
         ensures few { result ≤ 256 }
     {
-        Scope::new(self.atoms().len(), self.horizon()).free_places(self.relations())
+        self.draft.signature().free_places()
     }
 }

@@ -1,15 +1,13 @@
 ghost use Rattle.std.specs.Prelude.{◌≡◌, [], IfOk};
-ghost use Rattle.problem.specs.Declarations.{OneAtom};
 ghost use Rattle.problem.specs.Drafts.{sorts_of, nodes_of};
-ghost use Rattle.problem.specs.Problems.{Fresh, Filled};
+ghost use Rattle.problem.specs.Problems.{OneAtom, Fresh, Filled};
 
-use super::super::declarations::Declarations;
 use super::super::draft::{Draft, Room};
 use super::super::node::{Constant, Node, Test};
-use super::super::signature::one_state;
 use super::super::sort::Kind;
 use super::Problem;
 use names::Name;
+use relations::{Declarations, Signature};
 use std::alloc::{AllocError, Global};
 
 impl Problem {
@@ -17,7 +15,7 @@ impl Problem {
     pub fn fresh(heap: Global) -> Result<Problem, AllocError>
         ensures { IfOk result (λ p. Fresh p) }
     {
-        let signature = one_state(one_atom(heap)?);
+        let signature = Signature::new(one_atom(heap)?, 1).unwrap();
         let room = Room::new(heap)?;
         Ok(filled(Draft::new(signature, room)))
     }

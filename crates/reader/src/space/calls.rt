@@ -4,7 +4,8 @@ ghost use Rattle.reader.specs.Reading.{nothing_known};
 
 use super::Space;
 use formulas::Scope;
-use problem::{Declarations, Room};
+use problem::Room;
+use relations::Declarations;
 use std::alloc::{AllocError, Global};
 
 impl Space {

@@ -1,6 +1,6 @@
 ghost use Rattle.std.specs.Prelude.{◌≡◌, ◌+◌, ◌≤◌, slice_index_or};
 ghost use Rattle.lasso.specs.declared.value.Value.TheVariants.{Open};
-ghost use Rattle.problem.specs.Relations.{arity_number};
+ghost use Rattle.relations.specs.Relations.{arity_number};
 ghost use Rattle.problem.specs.Sorts.{constant_arity};
 ghost use Rattle.meaning.specs.Tables.{constant_table, variable_table};
 ghost use Rattle.tuples.specs.Tabled.{Tabled};
@@ -9,7 +9,8 @@ use super::super::atoms::Atoms;
 use super::Tuples;
 use super::filled::filled;
 use lasso::Value;
-use problem::{Arity, Constant};
+use problem::Constant;
+use relations::Arity;
 
 impl Tuples {
     // All atoms, no atom, or each atom beside itself.

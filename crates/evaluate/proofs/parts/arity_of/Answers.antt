@@ -1,8 +1,8 @@
 use Rattle.std.proofs.Common.{◌≡◌, ◌<◌, List, map, length, get_or, slice_index, sym, ap, ◌∙◌, arith}
 use Rattle.std.proofs.lemmas.Option.{get_or_from_slice_get}
-use Rattle.problem.specs.declared.relation.Relation.{Relation}
-use Rattle.problem.specs.Relations.{Declared, declared_of, arity_number}
-use Rattle.problem.specs.Declarations.{arities}
+use Rattle.relations.specs.declared.relation.Relation.{Relation}
+use Rattle.relations.specs.Relations.{Declared, declared_of, arity_number}
+use Rattle.relations.specs.Declarations.{arities}
 use Rattle.problem.proofs.Nths.{nth_arities}
 use Rattle.evaluate.proofs.parts.arity_of.Goals as goal
 

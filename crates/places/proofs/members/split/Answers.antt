@@ -1,8 +1,8 @@
 use Rattle.std.proofs.Common.{◌≡◌, ℕ, ◌<◌, List, length, get_or, sym, ap, ◌∙◌, subst, arith}
 use Rattle.std.proofs.lemmas.List.{get_or-map}
-use Rattle.problem.specs.declared.relation.Arity.{Arity}
-use Rattle.problem.specs.Relations.{Declared}
-use Rattle.problem.specs.Free.{size_of, declared_size}
+use Rattle.relations.specs.declared.relation.Arity.{Arity}
+use Rattle.relations.specs.Relations.{Declared}
+use Rattle.relations.specs.Free.{size_of, declared_size}
 use Rattle.problem.specs.Problems.{atoms_in, relations_in, sizes_in}
 use Rattle.places.specs.Asked.{no_relation, relation_at}
 use Rattle.places.specs.Members.{AtomsAre}

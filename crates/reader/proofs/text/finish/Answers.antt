@@ -1,6 +1,6 @@
 use Rattle.std.proofs.Common.{ap, ◌∙◌}
 use Rattle.problem.specs.declared.draft.Draft.{Draft}
-use Rattle.problem.specs.Declarations.{atoms_of, relations_of}
+use Rattle.relations.specs.Declarations.{atoms_of, relations_of}
 use Rattle.problem.specs.Drafts.{nodes_of, sorts_of}
 use Rattle.formulas.specs.Bodies.{body}
 use Rattle.reader.specs.Reading.{Contents}

@@ -1,7 +1,7 @@
 use Rattle.std.proofs.Common.{◌≡◌, ◌+◌, ◌-◌, ◌<◌, sym, ap, ◌∙◌, arith}
 use Rattle.std.proofs.lemmas.Result.{err_from_is_err_and}
-use Rattle.problem.specs.declared.declarations.Declarations.{Declarations}
-use Rattle.problem.specs.Declarations.{atoms_of}
+use Rattle.relations.specs.declared.declarations.Declarations.{Declarations}
+use Rattle.relations.specs.Declarations.{atoms_of}
 use Rattle.tokens.specs.Cursors.{cursor}
 use Rattle.tokens.specs.Outcomes.{then}
 use Rattle.declaring.specs.Sets.{listed, tuple, tuples, most_text}

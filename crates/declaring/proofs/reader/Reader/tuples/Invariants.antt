@@ -1,5 +1,5 @@
 use Rattle.std.proofs.Common.{◌≡◌, ◌-◌}
-use Rattle.problem.specs.Declarations.{atoms_of}
+use Rattle.relations.specs.Declarations.{atoms_of}
 use Rattle.tokens.specs.Cursors.{cursor}
 use Rattle.declaring.specs.Sets.{listed, tuples, most_text}
 use Rattle.declaring.proofs.reader.Reader.tuples.Given as goal

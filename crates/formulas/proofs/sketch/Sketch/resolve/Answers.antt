@@ -6,8 +6,8 @@ use Rattle.std.proofs.lemmas.Result.{err_from_is_err_and}
 use Rattle.faults.specs.declared.Fault.TheVariants.{NameUnknown}
 use Rattle.names.specs.Names.{spelling}
 use Rattle.names.specs.Lookups.{index_of}
-use Rattle.problem.specs.Relations.{Declared, arity_number, relation_name}
-use Rattle.problem.specs.Declarations.{relations_of, declared_name, declared_arity}
+use Rattle.relations.specs.Relations.{Declared, arity_number, relation_name}
+use Rattle.relations.specs.Declarations.{relations_of, declared_name, declared_arity}
 use Rattle.formulas.specs.Bodies.{body, name_of_variable}
 use Rattle.formulas.specs.Outcomes.{names_of, arities_of}
 use Rattle.formulas.proofs.Steps.{both, resolved_variable, resolved_relation, resolved_nothing}

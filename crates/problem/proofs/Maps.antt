@@ -1,9 +1,0 @@
--- A list of relations, by their names and by their declarations.
-use Rattle.std.proofs.Common.{◌≡◌, List, [], ◌∷◌, map, refl, ap}
-use Rattle.problem.specs.declared.relation.Relation.{Relation}
-use Rattle.problem.specs.Relations.{relation_name, declared_of}
-use Rattle.problem.specs.Declarations.{declared_name}
-
-pub names_of : (rs : List Relation) → map relation_name rs ≡ map declared_name (map declared_of rs)
-names_of [] = refl
-names_of (r ∷ rs) = ap (λ ns. relation_name r ∷ ns) (names_of rs)

@@ -1,0 +1,4 @@
+pub mod Bounds
+pub mod Made
+pub mod Maps
+pub mod Sizes

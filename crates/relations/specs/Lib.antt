@@ -1,0 +1,4 @@
+pub mod Relations
+pub mod Declarations
+pub mod Free
+pub mod Signatures
