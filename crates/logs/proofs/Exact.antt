@@ -7,8 +7,7 @@ use Rattle.std.proofs.lemmas.Bool.Decides.{nat_tests}
 use Rattle.faults.specs.declared.Fault.{Fault}
 use Rattle.faults.specs.declared.Fault.TheVariants.{OutsideLimits, PlaceOutOfOrder}
 use Rattle.lasso.specs.declared.value.Value.TheVariants.{Open}
-use Rattle.numbers.specs.declared.read.Number.{Number}
-use Rattle.numbers.specs.Numbers.{most_bytes, limit, encode, and_then, read_at, within, edition, Bytes}
+use Rattle.numbers.specs.Numbers.{Number, most_bytes, limit, encode, and_then, read_at, within, edition, Bytes}
 use Rattle.numbers.specs.Lists.{Read, read, entry, entries, list, lists, list_bytes, Ascends, Good}
 use Rattle.numbers.proofs.ListsSound.{never, ok_inj, then_inv, cond_inv, edition_sound, within_sound, lists_sound}
 use Rattle.numbers.proofs.ListsComplete.{number, skip, within_complete, edition_complete, lists_complete}

@@ -11,11 +11,10 @@ use Rattle.source.specs.Meanings.{Kept}
 use Rattle.numbers.specs.Lists.{Read, read, list, lists}
 use Rattle.numbers.proofs.Lists.{lists_got, lists_err}
 use Rattle.numbers.proofs.ListsSound.{never, ok_inj, then_inv, cond_out}
-use Rattle.logs.specs.declared.marks.Told.{Told}
 use Rattle.logs.specs.declared.log.calls.Header.{Header}
 use Rattle.logs.specs.Logs.{place_of, Said, Heading, heading, parse, said_by, said}
 use Rattle.logs.specs.Meanings.{latest, latest_of, log_meaning}
-use Rattle.logs.specs.Told.{told, after_marks}
+use Rattle.logs.specs.Told.{after_marks}
 use Rattle.logs.specs.Heads.{heading_as, Headed}
 use Rattle.logs.proofs.Scans.{latest_of_push}
 
@@ -63,12 +62,12 @@ kept d n k = record {
       o;
 }
 
-pub headed : (bs : List ℕ) (h : Header) → is_ok (parse bs) ≡ true → heading bs ≡ Ok (heading_as h) → h.places ≤ 768 → h.instants ≤ 16 → h.next ≤ length bs → Headed bs h
-headed bs h ok e n k b =
+pub headed : (bs : List ℕ) (h : Header) (next : ℕ) → is_ok (parse bs) ≡ true → heading bs ≡ Ok (heading_as h next) → h.places ≤ 768 → h.instants ≤ 16 → Headed bs h next
+headed bs h next ok e n k =
     let d = ok_of (parse bs) ok in
     let p = parse_inv bs d.0 d.1 in
     let s : said bs ≡ d.0 = ap said_by d.1 in
-    let g : p.head ≡ heading_as h = ok_inj p.head (heading_as h) (sym p.headed ∙ e) in
+    let g : p.head ≡ heading_as h next = ok_inj p.head (heading_as h next) (sym p.headed ∙ e) in
     let x : h.places ≡ (said bs).places = sym (ap (λ (g : Heading). g.places) g) ∙ p.places ∙ sym (ap (λ (d : Said). d.places) s) in
     let y : h.instants ≡ (said bs).instants = sym (ap (λ (g : Heading). g.instants) g) ∙ p.instants ∙ sym (ap (λ (d : Said). d.instants) s) in
     record {
@@ -76,35 +75,30 @@ headed bs h ok e n k b =
       instants = y;
       few_places = n;
       few_instants = k;
-      inside = b;
       end = p.end;
       marks = ap (λ (g : Heading). lists place_of bs g.places g.instants g.next []) (sym g) ∙ p.runs ∙ ap (λ (d : Said). Ok (read d.marks p.end)) (sym s);
       kept = kept (said bs) (omega arith) (omega arith);
     }
 
 -- ---- what the marks of one instant leave
-pub after_inv : (p : ℕ) (v : Value) (r : Result (Read (List ℕ)) Fault) (t : Told) → after_marks p v r ≡ Ok t → (ms : List ℕ) × (r ≡ Ok (read ms t.next)) × (t.value ≡ latest p v ms)
+pub after_inv : (p : ℕ) (v : Value) (r : Result (Read (List ℕ)) Fault) (t : Read Value) → after_marks p v r ≡ Ok t → (ms : List ℕ) × (r ≡ Ok (read ms t.next)) × (t.got ≡ latest p v ms)
 after_inv p v (Ok x) t e =
-    let same = ok_inj (told (latest p v x.got) x.next) t e in
-    (x.got, ap (λ (t : Told). Ok (read x.got t.next)) same, sym (ap (λ (t : Told). t.value) same))
+    let same = ok_inj (read (latest p v x.got) x.next) t e in
+    (x.got, ap (λ (t : Read Value). Ok (read x.got t.next)) same, sym (ap (λ (t : Read Value). t.got) same))
 after_inv p v (Err f) t e = absurd (never f t e)
-
-pub after_err : (p : ℕ) (v : Value) (r : Result (Read (List ℕ)) Fault) (f : Fault) → after_marks p v r ≡ Err f → r ≡ Err f
-after_err p v (Ok x) f e = absurd (never f (told (latest p v x.got) x.next) (sym e))
-after_err p v (Err g) f e = let s : g ≡ f = cc in ap (λ z. Err z) s
 
 -- ---- the marks of some instants were read, and go on as those of all
 pub record Going (bs : List ℕ) (n k left at from : ℕ) : Type 0 where
   pub rows : List (List ℕ)
   pub same : lists place_of bs n left at rows ≡ lists place_of bs n k from []
 
-pub going_on : (bs : List ℕ) (n k left at from : ℕ) (t : Told) → 0 < left → Going bs n k left at from → after_marks 0 Open (list place_of bs n at) ≡ Ok t → Going bs n k (left - 1) t.next from
+pub going_on : (bs : List ℕ) (n k left at from : ℕ) (t : Read Value) → 0 < left → Going bs n k left at from → after_marks 0 Open (list place_of bs n at) ≡ Ok t → Going bs n k (left - 1) t.next from
 going_on bs n k left at from t h g e =
     let a = after_inv 0 Open (list place_of bs n at) t e in
     record { rows = g.rows ++ a.0 ∷ []; same = sym (lists_got place_of bs n left at g.rows a.0 t.next h a.1) ∙ g.same }
 
-pub going_wrong : (bs : List ℕ) (n k left at from : ℕ) (f : Fault) → 0 < left → Going bs n k left at from → after_marks 0 Open (list place_of bs n at) ≡ Err f → lists place_of bs n k from [] ≡ Err f
-going_wrong bs n k left at from f h g e = sym g.same ∙ lists_err place_of bs n left at g.rows f h (after_err 0 Open (list place_of bs n at) f e)
+pub going_wrong : (bs : List ℕ) (n k left at from : ℕ) (f : Fault) → 0 < left → Going bs n k left at from → list place_of bs n at ≡ Err f → lists place_of bs n k from [] ≡ Err f
+going_wrong bs n k left at from f h g e = sym g.same ∙ lists_err place_of bs n left at g.rows f h e
 
 -- ---- of the marks of all instants, those of the first i are read
 pub record Seen (bs : List ℕ) (n left at i : ℕ) (marks : List (List ℕ)) : Type 0 where
@@ -130,8 +124,8 @@ seen_list bs n (suc k) at i marks h s =
     let x = then_inv (list place_of bs n at) _ (read marks s.end) s.runs in
     ap is_ok x.1
 
-pub seen_more : (bs : List ℕ) (n left at i p : ℕ) (v : Value) (marks : List (List ℕ)) (t : Told) → 0 < left → Seen bs n left at i marks → v ≡ latest_of p Open (take i marks)
-    → after_marks p v (list place_of bs n at) ≡ Ok t → Seen bs n (left - 1) t.next (i + 1) marks × (t.value ≡ latest_of p Open (take (i + 1) marks))
+pub seen_more : (bs : List ℕ) (n left at i p : ℕ) (v : Value) (marks : List (List ℕ)) (t : Read Value) → 0 < left → Seen bs n left at i marks → v ≡ latest_of p Open (take i marks)
+    → after_marks p v (list place_of bs n at) ≡ Ok t → Seen bs n (left - 1) t.next (i + 1) marks × (t.got ≡ latest_of p Open (take (i + 1) marks))
 seen_more bs n left at i p v marks t h s e a =
     let x = after_inv p v (list place_of bs n at) t a in
     let ms = x.0 in

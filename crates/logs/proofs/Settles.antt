@@ -1,8 +1,7 @@
 -- A number at fault settles the refusal of a log.
 use Rattle.std.proofs.Common.{◌≡◌, ℕ, true, List, Ok, Err, ap, arith}
 use Rattle.faults.specs.declared.Fault.{Fault}
-use Rattle.numbers.specs.declared.read.Number.{Number}
-use Rattle.numbers.specs.Numbers.{and_then, within, edition, Bytes}
+use Rattle.numbers.specs.Numbers.{Number, and_then, within, edition, Bytes}
 use Rattle.numbers.specs.Settled.{by_number, Settled}
 use Rattle.numbers.proofs.Settles.{Fixed, Same, chain, chain_ok, ok_err, within_err, within_ok, edition_err, edition_ok, whole_settles}
 use Rattle.numbers.proofs.ListsSound.{ok_inj}

@@ -1,34 +1,28 @@
 -- What the reader of a log answers, and what it finds on its way. Assumes nothing.
-use Rattle.std.specs.Prelude.{◌≡◌, ℕ, zero, suc, ◌+◌, ◌%◌, ◌<◌, cond, true, List, is_ok, Ok, Err, Result, ◌==◌, ◌≢◌}
+use Rattle.std.specs.Prelude.{◌≡◌, ℕ, ◌%◌, ◌<◌, cond, true, List, is_ok, Ok, Err, Result, ◌==◌, ◌≢◌}
 use Rattle.faults.specs.declared.Fault.{Fault}
 use Rattle.lasso.specs.declared.value.Value.{Value}
 use Rattle.lasso.specs.declared.value.Value.TheVariants.{No, Yes}
-use Rattle.numbers.specs.declared.read.Number.{Number}
 use Rattle.numbers.specs.Numbers.{and_then, Bytes}
-use Rattle.numbers.specs.Lists.{Read, entry}
-use Rattle.logs.specs.declared.marks.Told.{Told}
+use Rattle.numbers.specs.Lists.{Read, read, entry}
 use Rattle.logs.specs.declared.marks.Mark.{Mark}
 use Rattle.numbers.specs.Settled.{Settled}
 use Rattle.source.specs.Meanings.{Means}
 use Rattle.logs.specs.Logs.{place_of, Said, IsLog, log_of, parse, said}
-use Rattle.logs.specs.Meanings.{mark, latest, known, FromLatest, marks_to, log_meaning}
-
-abbrev pub told : Value → ℕ → Told
-told v at = record { value = v; next = at }
+use Rattle.logs.specs.Meanings.{latest, known, FromLatest, marks_to, log_meaning}
 
 -- the value of a place after the marks that were read
-abbrev pub after_marks : ℕ → Value → Result (Read (List ℕ)) Fault → Result Told Fault
-after_marks p v (Ok r) = Ok (told (latest p v r.got) r.next)
+abbrev pub after_marks : ℕ → Value → Result (Read (List ℕ)) Fault → Result (Read Value) Fault
+after_marks p v (Ok r) = Ok (read (latest p v r.got) r.next)
 after_marks p v (Err f) = Err f
 
 -- the mark in a number
-abbrev pub mark_in : Number → Mark
-mark_in n = record { place = place_of n.value; value = cond (n.value % 2 == 1) Yes No; next = n.next }
+abbrev pub mark_in : ℕ → Mark
+mark_in n = record { place = place_of n; value = cond (n % 2 == 1) Yes No }
 
--- the same, mark by mark
-abbrev pub scan : ℕ → List ℕ → ℕ → ℕ → ℕ → ℕ → Value → Result Told Fault
-scan p bs n zero low at v = Ok (told v at)
-scan p bs n (suc c) low at v = and_then (entry place_of bs at low n) (λ m. scan p bs n c (place_of m.value + 1) m.next (mark p v m.value))
+-- a mark whose place is from `low` on and below n
+abbrev pub mark_at : List ℕ → ℕ → ℕ → ℕ → Result (Read Mark) Fault
+mark_at bs at low n = and_then (entry place_of bs at low n) (λ v. Ok (read (mark_in v.value) v.next))
 
 -- bytes are accepted: they are the log of what they say, and no other bytes say it
 pub record Accepted (bs : List ℕ) (d : Said) : Type 0 where

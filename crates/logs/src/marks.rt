@@ -1,26 +1,17 @@
-ghost use Rattle.std.specs.Prelude.{◌≡◌, ◌<◌, ◌≤◌, length, Ok, IfOk, if◌then◌else◌, nat_eq};
-ghost use Rattle.numbers.specs.Lists.{entry, list};
+ghost use Rattle.std.specs.Prelude.{◌≡◌, ◌<◌, Ok, Err, IfOk, MatchResult, if◌then◌else◌, nat_eq};
+ghost use Rattle.numbers.specs.Lists.{read as read_to, entry, list};
 ghost use Rattle.logs.specs.Logs.{place_of};
-ghost use Rattle.numbers.specs.Numbers.{and_then};
-ghost use Rattle.logs.specs.Told.{mark_in, after_marks};
+ghost use Rattle.logs.specs.Told.{mark_at, after_marks};
 
 use faults::Fault;
 use lasso::Value;
-use numbers::{Entry, read_entry, read_within};
+use numbers::{Entry, Reader};
 
-// The value of a place after the marks of an instant, and the index of the byte after them.
-#[derive(Clone, Copy)]
-pub(crate) struct Told {
-    pub(crate) value: Value,
-    pub(crate) next: usize,
-}
-
-// A mark that was read: its place and what it says of it, and the index of the byte after it.
+// A mark: its place and what it says of it.
 #[derive(Clone, Copy)]
 struct Mark {
     place: usize,
     value: Value,
-    next: usize,
 }
 
 impl Mark {
@@ -46,40 +37,34 @@ impl Entry for Mark {
 }
 
 // Reads a mark whose place lies above the ones before it and below the place count.
-fn read_mark(bytes: &[u8], at: usize, low: usize, places: usize) -> Result<Mark, Fault>
-    ensures value { result ≡ and_then (entry place_of bytes.now at low places) (λ n. Ok (mark_in n)) }
-    ensures inside { IfOk result (λ m. (m.place < places) × (m.next ≤ length bytes.now)) }
+fn read_mark(reader: &mut Reader<'_>, low: usize, places: usize) -> Result<Mark, Fault>
+    ensures same { reader.new.bytes.now ≡ reader.old.bytes.now }
+    ensures value { MatchResult result (λ m. mark_at reader.old.bytes.now reader.old.at low places ≡ Ok (read_to m reader.new.at)) (λ f. entry place_of reader.old.bytes.now reader.old.at low places ≡ Err f) }
+    ensures inside { IfOk result (λ m. m.place < places) }
 {
-    let number = read_entry::<Mark>(bytes, at, low, places)?;
+    let number = reader.entry::<Mark>(low, places)?;
     Ok(Mark {
-        place: Mark::place_of(number.value),
-        value: Value::from(number.value % 2 == 1),
-        next: number.next,
+        place: Mark::place_of(number),
+        value: Value::from(number % 2 == 1),
     })
 }
 
 // Reads the marks of an instant: what they leave of a place that had a value.
 pub(crate) fn read_marks(
-    bytes: &[u8],
-    from: usize,
+    reader: &mut Reader<'_>,
     places: usize,
     place: usize,
     value: Value,
-) -> Result<Told, Fault>
-    ensures value { result ≡ after_marks place value (list place_of bytes.now places from) }
-    ensures inside { IfOk result (λ t. t.next ≤ length bytes.now) }
+) -> Result<Value, Fault>
+    ensures same { reader.new.bytes.now ≡ reader.old.bytes.now }
+    ensures value { MatchResult result (λ v. after_marks place value (list place_of reader.old.bytes.now places reader.old.at) ≡ Ok (read_to v reader.new.at)) (λ f. list place_of reader.old.bytes.now places reader.old.at ≡ Err f) }
 {
-    let counted = read_within(bytes, from, 0, places)?;
-    let count = counted.value;
-    let (mut at, mut low, mut latest) = (counted.next, 0, value);
+    let count = reader.within(0, places)?;
+    let (mut low, mut latest) = (0, value);
     for _done in 0..count {
-        let mark = read_mark(bytes, at, low, places)?;
+        let mark = read_mark(reader, low, places)?;
         latest = mark.after(place, latest);
         low = mark.place + 1;
-        at = mark.next;
     }
-    Ok(Told {
-        value: latest,
-        next: at,
-    })
+    Ok(latest)
 }

@@ -1,8 +1,11 @@
 -- Laws of numbers: what is written reads back, nothing else reads as that number, and why bytes are no number.
-use Rattle.std.proofs.Common.{◌≡◌, ℕ, ◌+◌, ◌-◌, ◌*◌, ◌/◌, ◌%◌, ◌<◌, ◌≤◌, List, [], ◌∷◌, ◌++◌, length, drop, Ok, Err, sym, refl, ap, ◌∙◌, subst, ⊎_elim, append-nil, arith, MatchResult}
+use Rattle.std.proofs.Common.{◌≡◌, ℕ, ◌+◌, ◌-◌, ◌*◌, ◌/◌, ◌%◌, ◌<◌, ◌≤◌, List, [], ◌∷◌, ◌++◌, length, drop, Ok, Err, sym, refl, ap, ◌∙◌, subst, ⊎_elim, append-nil, arith, Result, MatchResult}
 use Rattle.std.proofs.lemmas.List.{drop-drop, get_or-drop}
 use Rattle.std.proofs.lemmas.Bool.{cases_lt}
 use Rattle.std.proofs.lemmas.Bool.Decides.{nat_tests}
+use Rattle.std.proofs.lemmas.Result.{MatchResult-at_ok, MatchResult-at_err}
+use Rattle.faults.specs.declared.Fault.{Fault}
+use Rattle.numbers.specs.Readers.{Answers}
 use Rattle.numbers.specs.declared.read.Leading.{Leading}
 use Rattle.numbers.specs.declared.read.Unread.TheVariants.{Ended, NotShortest as Longer}
 use Rattle.numbers.specs.Numbers.{limit, encode, First, leads, ended, wrong, first, placed, read_at, Bytes, Stands, Mended, Refuses}
@@ -215,12 +218,9 @@ wrong_stays (a ∷ b ∷ d ∷ s) more e =
     (cases_lt a 128)
 
 -- ---- the same at a byte
-module _ (bs : List ℕ) (bytes : Bytes bs) (at : ℕ) where
+module _ (bs : List ℕ) (at : ℕ) (bytes_on : Bytes (drop at bs)) where
   abbrev s : List ℕ
   s = drop at bs
-
-  bytes_on : Bytes s
-  bytes_on i = subst (λ (x : ℕ). x < 256) (sym (get_or-drop at bs i 0)) (bytes (at + i))
 
   stands : (n k : ℕ) → first s ≡ leads n k → Stands bs at n (at + k)
   stands n k e =
@@ -246,8 +246,17 @@ module _ (bs : List ℕ) (bytes : Bytes bs) (at : ℕ) where
   exact (Err Longer) e =
       (no_number (λ n k x. not_wrong _ n k x e), (λ x. absurd (let z : ◌≡◌ {A = ℕ} 0 1 = cc in omega arith)), λ _. not_mended e)
 
-  pub read_exact : MatchResult (read_at bs at) (λ n. Stands bs at n.value n.next) (λ f. Refuses bs at f)
-  read_exact = exact (first s) refl
+  read_exact_on : MatchResult (read_at bs at) (λ n. Stands bs at n.value n.next) (λ f. Refuses bs at f)
+  read_exact_on = exact (first s) refl
+
+pub read_exact : (bs : List ℕ) → Bytes bs → (at : ℕ) → MatchResult (read_at bs at) (λ n. Stands bs at n.value n.next) (λ f. Refuses bs at f)
+read_exact bs bytes at = read_exact_on bs at (λ i. subst (λ (x : ℕ). x < 256) (sym (get_or-drop at bs i 0)) (bytes (at + i)))
+
+-- the same of what a reader answers, where the bytes from `at` on are bytes
+pub answers_exact : (bs : List ℕ) (at : ℕ) (answer : Result ℕ Fault) (next : ℕ) → Bytes (drop at bs) → Answers (read_at bs at) at answer next
+    → MatchResult answer (λ n. Stands bs at n next) (λ f. Refuses bs at f)
+answers_exact bs at (Ok n) next bytes e = MatchResult-at_ok _ _ (record { value = n; next = next }) e (read_exact_on bs at bytes)
+answers_exact bs at (Err f) next bytes e = MatchResult-at_err _ _ f e.0 (read_exact_on bs at bytes)
 
 -- ---- what is written at the start of a buffer reads back
 pub reads_back : (n len : ℕ) (new rest : List ℕ) → n < limit → new ≡ encode n ++ rest → len ≡ length (encode n) → read_at new 0 ≡ Ok (record { value = n; next = len })

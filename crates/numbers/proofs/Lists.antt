@@ -1,8 +1,7 @@
 -- Counted lists: what each step of reading one makes of the rest, and lists that ascend within wider limits.
 use Rattle.std.proofs.Common.{◌≡◌, ℕ, zero, suc, ◌+◌, ◌-◌, ◌<◌, ◌≤◌, List, [], ◌∷◌, ◌++◌, Ok, Err, refl, ap, ◌∙◌, arith}
 use Rattle.faults.specs.declared.Fault.{Fault}
-use Rattle.numbers.specs.declared.read.Number.{Number}
-use Rattle.numbers.specs.Numbers.{and_then, within}
+use Rattle.numbers.specs.Numbers.{Number, and_then, within}
 use Rattle.numbers.specs.Lists.{read, entry, entries, list, lists, Ascends}
 
 module _ (f : ℕ → ℕ) (bs : List ℕ) (n : ℕ) where

@@ -4,8 +4,7 @@ use Rattle.std.specs.List.{flat_map}
 use Rattle.std.proofs.lemmas.List.{drop-drop, drop_at}
 use Rattle.std.proofs.lemmas.Bool.{cond-true, and_from, le-leb, lt-ltb}
 use Rattle.faults.specs.declared.Fault.TheVariants.{UnknownEdition, OutsideLimits, PlaceOutOfOrder}
-use Rattle.numbers.specs.declared.read.Number.{Number}
-use Rattle.numbers.specs.Numbers.{limit, encode, first, placed, and_then, read_at, within, edition}
+use Rattle.numbers.specs.Numbers.{Number, limit, encode, first, placed, and_then, read_at, within, edition}
 use Rattle.numbers.specs.Lists.{read, entry, entries, list, lists, list_bytes, Ascends, Good}
 use Rattle.numbers.proofs.Laws.{round}
 

@@ -5,8 +5,7 @@ use Rattle.std.proofs.lemmas.Result.{MatchResult-at_ok}
 use Rattle.std.proofs.lemmas.Bool.{eqb-true}
 use Rattle.faults.specs.declared.Fault.{Fault}
 use Rattle.faults.specs.declared.Fault.TheVariants.{UnknownEdition, OutsideLimits, PlaceOutOfOrder}
-use Rattle.numbers.specs.declared.read.Number.{Number}
-use Rattle.numbers.specs.Numbers.{encode, and_then, read_at, within, edition, Bytes, Stands, Refuses}
+use Rattle.numbers.specs.Numbers.{Number, encode, and_then, read_at, within, edition, Bytes, Stands, Refuses}
 use Rattle.numbers.specs.Lists.{read, entry, entries, list, lists, list_bytes}
 use Rattle.numbers.proofs.Laws.{read_exact}
 

@@ -7,9 +7,8 @@ use Rattle.std.proofs.lemmas.Bool.Decides.{nat_tests}
 use Rattle.faults.specs.declared.Fault.{Fault}
 use Rattle.faults.specs.declared.Fault.TheVariants.{EndsEarly, NotShortest, UnknownEdition, OutsideLimits, PlaceOutOfOrder, BytesLeftOver, TooManyBytes}
 use Rattle.faults.specs.Table as table
-use Rattle.numbers.specs.declared.read.Number.{Number}
 use Rattle.numbers.specs.declared.read.Unread.TheVariants.{Ended, NotShortest as Longer}
-use Rattle.numbers.specs.Numbers.{most_bytes, encode, First, ended, wrong, first, placed, and_then, read_at, within, edition, Bytes, Stands, Refuses}
+use Rattle.numbers.specs.Numbers.{Number, most_bytes, encode, First, ended, wrong, first, placed, and_then, read_at, within, edition, Bytes, Stands, Refuses}
 use Rattle.numbers.specs.Lists.{Read, read, entry, entries, list, lists}
 use Rattle.numbers.specs.Settled.{by_number, Settled}
 use Rattle.numbers.proofs.Laws.{read_exact}

@@ -1,3 +1,4 @@
 pub mod Numbers
+pub mod Readers
 pub mod Lists
 pub mod Settled

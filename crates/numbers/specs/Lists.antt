@@ -3,8 +3,7 @@ use Rattle.std.specs.Prelude.{ℕ, zero, suc, ◌+◌, ◌<◌, ◌≤◌, cond,
 use Rattle.std.specs.List.{flat_map}
 use Rattle.faults.specs.declared.Fault.{Fault}
 use Rattle.faults.specs.declared.Fault.TheVariants.{PlaceOutOfOrder}
-use Rattle.numbers.specs.declared.read.Number.{Number}
-use Rattle.numbers.specs.Numbers.{encode, and_then, read_at, within}
+use Rattle.numbers.specs.Numbers.{Number, encode, and_then, read_at, within}
 
 -- something that was read, and the byte after it
 pub record Read (X : Type 0) : Type 0 where

@@ -1,11 +1,15 @@
 -- Numbers in groups of seven bits, lowest first, in their shortest form. Assumes nothing.
 use Rattle.std.specs.Prelude.{◌≡◌, ℕ, ◌+◌, ◌-◌, ◌*◌, ◌/◌, ◌%◌, ◌^◌, ◌<◌, cond, ◌&&◌, List, [], ◌∷◌, ◌++◌, length, drop, Ok, Err, Result, ◌==◌, nat_le, nat_lt, slice_index}
 use Rattle.faults.specs.declared.Fault.{Fault}
-use Rattle.faults.specs.declared.Fault.TheVariants.{EndsEarly, NotShortest, UnknownEdition, OutsideLimits, BufferTooShort}
-use Rattle.numbers.specs.declared.read.Number.{Number}
+use Rattle.faults.specs.declared.Fault.TheVariants.{EndsEarly, NotShortest, UnknownEdition, OutsideLimits, BytesLeftOver, BufferTooShort}
 use Rattle.numbers.specs.declared.read.Leading.{Leading}
 use Rattle.numbers.specs.declared.read.Unread.{Unread}
 use Rattle.numbers.specs.declared.read.Unread.TheVariants.{Ended, NotShortest as Longer}
+
+-- a number that was read, and the byte after it
+pub record Number : Type 0 where
+  pub value : ℕ
+  pub next : ℕ
 
 -- the most bytes of a record or a log
 abbrev pub most_bytes : ℕ
@@ -69,9 +73,17 @@ and_then (Err e) f = Err e
 abbrev pub within : List ℕ → ℕ → ℕ → ℕ → Result Number Fault
 within bs at low high = and_then (read_at bs at) (λ n. cond (nat_le low n.value && nat_le n.value high) (Ok n) (Err (OutsideLimits at)))
 
--- the edition that begins logs and records
+-- the edition, which is 1
+abbrev pub edition_at : List ℕ → ℕ → Result ℕ Fault
+edition_at bs at = and_then (read_at bs at) (λ n. cond (n.value == 1) (Ok n.next) (Err (UnknownEdition at)))
+
+-- it begins logs and records
 abbrev pub edition : List ℕ → Result ℕ Fault
-edition bs = and_then (read_at bs 0) (λ n. cond (n.value == 1) (Ok n.next) (Err (UnknownEdition 0)))
+edition bs = edition_at bs 0
+
+-- whether bytes are left over from a byte on
+abbrev pub left_over : List ℕ → ℕ → Result (Unit {0}) Fault
+left_over bs at = cond (nat_lt at (length bs)) (Err (BytesLeftOver at)) (Ok tt)
 
 -- a list of bytes
 abbrev pub Bytes : List ℕ → Type 0

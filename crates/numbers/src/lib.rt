@@ -3,8 +3,10 @@
 
 mod entry;
 mod read;
+mod reader;
 mod write;
 
-pub use entry::{Entry, read_entry};
-pub use read::{MOST_BYTES, Number, read_edition, read_number, read_within};
+pub use entry::Entry;
+pub use read::MOST_BYTES;
+pub use reader::Reader;
 pub use write::{number_len, write_number};

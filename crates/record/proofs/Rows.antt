@@ -9,7 +9,7 @@ use Rattle.trace.specs.Tables.{Empty}
 use Rattle.numbers.specs.Numbers.{encode}
 use Rattle.numbers.specs.Lists.{Ascends}
 use Rattle.numbers.proofs.Lists.{ascends_low, ascends_high}
-use Rattle.record.specs.Writing.{state_of, front}
+use Rattle.record.specs.Writing.{place_bytes, state_of, front}
 use Rattle.record.specs.Records.{itself, helds, among}
 
 pub helds_append : (i : ℕ) (xs ys : List Bool) → helds i (xs ++ ys) ≡ helds i xs ++ helds (i + length xs) ys
@@ -51,31 +51,19 @@ pub joined_append : {X A : Type 0} (f : X → List A) (xs ys : List X) → flat_
 joined_append f [] ys = refl
 joined_append f (x ∷ xs) ys = ap (λ z. f x ++ z) (joined_append f xs ys) ∙ sym (append_assoc (f x) (flat_map f xs) (flat_map f ys))
 
-module _ (row : List Bool) (p : ℕ) (h : p < length row) where
-  split : take (p + 1) row ≡ take p row ++ get_or row p false ∷ []
-  split = take_more row p false h
+-- one place more
+at_place : (p : ℕ) (b : Bool) → flat_map encode (helds p (b ∷ [])) ≡ place_bytes p b
+at_place p true = append-nil (encode p)
+at_place p false = refl
 
-  at_p : 0 + length (take p row) ≡ p
-  at_p = simp length-take (omega arith)
-
-  pub helds_held : get_or row p false ≡ true → helds 0 (take (p + 1) row) ≡ helds 0 (take p row) ++ p ∷ []
-  helds_held e = ap (helds 0) split ∙ helds_append 0 (take p row) _ ∙ ap (λ b. helds 0 (take p row) ++ helds (0 + length (take p row)) (b ∷ [])) e ∙ ap (λ n. helds 0 (take p row) ++ n ∷ []) at_p
-
-  pub helds_not : get_or row p false ≡ false → helds 0 (take (p + 1) row) ≡ helds 0 (take p row)
-  helds_not e = ap (helds 0) split ∙ helds_append 0 (take p row) _ ∙ ap (λ b. helds 0 (take p row) ++ helds (0 + length (take p row)) (b ∷ [])) e ∙ append-nil _
-
-module _ (row : List Bool) (p : ℕ) (h : p < length row) where
-  pub front_held : get_or row p false ≡ true → front row (p + 1) ≡ front row p ++ encode p
-  front_held e =
-      ap (λ z. encode (length (helds 0 row)) ++ flat_map encode z) (helds_held row p h e)
-      ∙ ap (λ z. encode (length (helds 0 row)) ++ z) (joined_append encode (helds 0 (take p row)) (p ∷ []) ∙ ap (λ z. flat_map encode (helds 0 (take p row)) ++ z) (append-nil (encode p)))
-      ∙ sym (append_assoc (encode (length (helds 0 row))) (flat_map encode (helds 0 (take p row))) (encode p))
-
-  pub front_not : get_or row p false ≡ false → front row (p + 1) ≡ front row p
-  front_not e = ap (λ z. encode (length (helds 0 row)) ++ flat_map encode z) (helds_not row p h e)
-
-  pub length_front_held : get_or row p false ≡ true → length (front row (p + 1)) ≡ length (front row p) + length (encode p)
-  length_front_held e = ap length (front_held e) ∙ length-append (front row p) (encode p)
+pub front_more : (row : List Bool) (p : ℕ) → p < length row → front row (p + 1) ≡ front row p ++ place_bytes p (get_or row p false)
+front_more row p h =
+    let n : 0 + length (take p row) ≡ p = simp length-take (omega arith) in
+    let e : helds 0 (take (p + 1) row) ≡ helds 0 (take p row) ++ helds p (get_or row p false ∷ []) =
+    ap (helds 0) (take_more row p false h) ∙ helds_append 0 (take p row) (get_or row p false ∷ []) ∙ ap (λ m. helds 0 (take p row) ++ helds m (get_or row p false ∷ [])) n in
+    ap (λ z. encode (length (helds 0 row)) ++ flat_map encode z) e
+    ∙ ap (λ z. encode (length (helds 0 row)) ++ z) (joined_append encode (helds 0 (take p row)) (helds p (get_or row p false ∷ [])) ∙ ap (λ z. flat_map encode (helds 0 (take p row)) ++ z) (at_place p (get_or row p false)))
+    ∙ sym (append_assoc (encode (length (helds 0 row))) (flat_map encode (helds 0 (take p row))) (place_bytes p (get_or row p false)))
 
 pub front_le : (row : List Bool) (p : ℕ) → length (front row p) ≤ length (state_of row)
 front_le row p =

@@ -2,8 +2,7 @@
 use Rattle.std.proofs.Common.{◌≡◌, ℕ, true, ltb, List, Ok, Err, refl, ap, subst}
 use Rattle.faults.specs.declared.Fault.{Fault}
 use Rattle.faults.specs.declared.Fault.TheVariants.{OutsideLimits}
-use Rattle.numbers.specs.declared.read.Number.{Number}
-use Rattle.numbers.specs.Numbers.{and_then, within, edition, Bytes}
+use Rattle.numbers.specs.Numbers.{Number, and_then, within, edition, Bytes}
 use Rattle.numbers.specs.Settled.{by_number, Settled}
 use Rattle.numbers.proofs.Settles.{Fixed, Same, chain, chain_ok, tested_err, tested_ok, within_err, within_ok, edition_err, edition_ok, whole_settles}
 use Rattle.record.specs.Records.{itself}

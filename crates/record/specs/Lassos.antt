@@ -1,13 +1,13 @@
 -- What the reader holds of a record while it reads. Assumes nothing.
-use Rattle.std.specs.Prelude.{◌≡◌, ◌≤◌, length}
+use Rattle.std.specs.Prelude.{◌≡◌, ℕ, ◌≤◌, length}
 use Rattle.trace.specs.Tables.{most_places, most_states, NoneOutside}
 use Rattle.record.specs.declared.read.Header.{Header}
 use Rattle.record.specs.declared.read.Lasso.{Lasso}
 use Rattle.record.specs.Records.{Said, rows_of}
 use Rattle.record.specs.Reading.{Heading}
 
-abbrev pub heading_as : Header → Heading
-heading_as h = record { places = h.places; states = h.shape.states; start = h.shape.loop_start; next = h.next }
+abbrev pub heading_as : Header → ℕ → Heading
+heading_as h at = record { places = h.places; states = h.shape.states; start = h.shape.loop_start; next = at }
 
 -- what the lasso says
 abbrev pub saying_of : Lasso → Said

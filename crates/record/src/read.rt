@@ -1,5 +1,6 @@
 ghost use Rattle.std.specs.Prelude.{◌≡◌, ◌+◌, ◌-◌, ◌<◌, ◌≤◌, false, [], length, replicate, IfOk, Ok, Err, MatchResult, OnOk};
-ghost use Rattle.trace.specs.Tables.{BlankFrom, NoneOutside};
+ghost use Rattle.trace.specs.Tables.{BlankFrom, NoneOutside, Empty};
+ghost use Rattle.numbers.specs.Readers.{Answers};
 ghost use Rattle.numbers.specs.Lists.{read as read_to, entry as entry_at, list as list_at, lists as lists_at};
 ghost use Rattle.record.specs.Records.{itself, helds, rows_of};
 ghost use Rattle.record.specs.Reading.{heading as heading_of, parse, Accepted, Refused};
@@ -7,15 +8,14 @@ ghost use Rattle.record.specs.Lassos.{saying_of, heading_as, Fits};
 
 use faults::Fault;
 use lasso::{Shape, State};
-use numbers::{Entry, MOST_BYTES, Number, read_edition, read_entry, read_number, read_within};
+use numbers::{Entry, MOST_BYTES, Reader};
 use trace::{MOST_PLACES, MOST_STATES, Table, Trace, blank};
 
-// What comes before the states, and the index of the byte after it.
+// What comes before the states.
 #[derive(Clone, Copy)]
 struct Header {
     places: usize,
     shape: Shape,
-    next: usize,
 }
 
 // What a record says, before it is known whether fewer states would do.
@@ -60,12 +60,11 @@ fn read_lasso(bytes: &[u8]) -> Result<Lasso, Fault>
     if bytes.len() > MOST_BYTES {
         return Err(Fault::TooManyBytes);
     }
-    let header = read_header(bytes)?;
+    let mut reader = Reader::new(bytes);
+    let header = read_header(&mut reader)?;
     let mut held = blank();
-    let end = read_states(bytes, header, &mut held)?;
-    if end < bytes.len() {
-        return Err(Fault::BytesLeftOver { place: end });
-    }
+    read_states(&mut reader, header, &mut held)?;
+    reader.finish()?;
     Ok(Lasso {
         places: header.places,
         shape: header.shape,
@@ -74,66 +73,64 @@ fn read_lasso(bytes: &[u8]) -> Result<Lasso, Fault>
 }
 
 // Reads what comes before the states.
-fn read_header(bytes: &[u8]) -> Result<Header, Fault>
-    ensures value { MatchResult result (λ h. heading_of bytes.now ≡ Ok (heading_as h)) (λ f. heading_of bytes.now ≡ Err f) }
-    ensures limits { IfOk result (λ h. (h.places ≤ 768) × (h.shape.states ≤ 8) × (h.next ≤ length bytes.now)) }
+fn read_header(reader: &mut Reader<'_>) -> Result<Header, Fault>
+    requires { reader.old.at ≡ 0 }
+    ensures same { reader.new.bytes.now ≡ reader.old.bytes.now }
+    ensures value { MatchResult result (λ h. heading_of reader.old.bytes.now ≡ Ok (heading_as h reader.new.at)) (λ f. heading_of reader.old.bytes.now ≡ Err f) }
+    ensures limits { IfOk result (λ h. (h.places ≤ 768) × (h.shape.states ≤ 8)) }
 {
-    let start = read_edition(bytes)?;
-    let places = read_within(bytes, start, 0, MOST_PLACES)?;
-    let states = read_within(bytes, places.next, 1, MOST_STATES)?;
-    let loop_start = read_number(bytes, states.next)?;
-    let shape = Shape::new(states.value as usize, State(loop_start.value as usize)).ok_or(
-        Fault::OutsideLimits { place: states.next },
-    )?;
-    Ok(Header {
-        places: places.value as usize,
-        shape,
-        next: loop_start.next,
-    })
+    reader.edition()?;
+    let places = reader.within(0, MOST_PLACES)?;
+    let states = reader.within(1, MOST_STATES)?;
+    let place = reader.position();
+    let loop_start = State(reader.number()? as usize);
+    let shape = Shape::new(states, loop_start).ok_or(Fault::OutsideLimits { place })?;
+    Ok(Header { places, shape })
 }
 
-// Reads the states into the table, in which nothing is held yet: the index of the byte after them.
-fn read_states(bytes: &[u8], header: Header, held: &mut Table) -> Result<usize, Fault>
+// Reads the states into the table, in which nothing is held yet.
+fn read_states(reader: &mut Reader<'_>, header: Header, held: &mut Table) -> Result<(), Fault>
     requires places { header.places ≤ 768 }
     requires states { header.shape.states ≤ 8 }
-    requires next { header.next ≤ length bytes.now }
     requires blank { BlankFrom 0 held.old }
     requires nothing { NoneOutside 0 0 held.old }
-    ensures cases { MatchResult result (λ next. lists_at itself bytes.now header.places header.shape.states header.next [] ≡ Ok (read_to (rows_of header.shape.states held.new) next)) (λ f. lists_at itself bytes.now header.places header.shape.states header.next [] ≡ Err f) }
+    ensures same { reader.new.bytes.now ≡ reader.old.bytes.now }
+    ensures cases { MatchResult result (λ _. lists_at itself reader.old.bytes.now header.places header.shape.states reader.old.at [] ≡ Ok (read_to (rows_of header.shape.states held.new) reader.new.at)) (λ f. lists_at itself reader.old.bytes.now header.places header.shape.states reader.old.at [] ≡ Err f) }
     ensures inside { OnOk result (NoneOutside header.places header.shape.states held.new) }
 {
-    let places = header.places;
-    let mut at = header.next;
-    for s in 0..header.shape.states() {
-        at = read_state(bytes, at, &mut held[s][0..places])?;
+    for row in &mut held[..header.shape.states()] {
+        read_state(reader, header.places, row)?;
     }
-    Ok(at)
+    Ok(())
 }
 
-// Reads the held places of a state into its row, in which nothing is held yet: the index of the byte after them.
-fn read_state(bytes: &[u8], from: usize, row: &mut [bool]) -> Result<usize, Fault>
-    requires from { from ≤ length bytes.now }
-    requires blank { row.old ≡ replicate (length row.old) false }
-    ensures cases { MatchResult result (λ next. list_at itself bytes.now (length row.old) from ≡ Ok (read_to (helds 0 row.new) next)) (λ f. list_at itself bytes.now (length row.old) from ≡ Err f) }
-    ensures inside { IfOk result (λ next. next ≤ length bytes.now) }
+// Reads the held places of a state into its row, in which nothing is held yet.
+fn read_state(
+    reader: &mut Reader<'_>,
+    places: usize,
+    row: &mut [bool; MOST_PLACES],
+) -> Result<(), Fault>
+    requires places { places ≤ 768 }
+    requires blank { row.old ≡ replicate 768 false }
+    ensures same { reader.new.bytes.now ≡ reader.old.bytes.now }
+    ensures cases { MatchResult result (λ _. list_at itself reader.old.bytes.now places reader.old.at ≡ Ok (read_to (helds 0 row.new) reader.new.at)) (λ f. list_at itself reader.old.bytes.now places reader.old.at ≡ Err f) }
+    ensures inside { IfOk result (λ _. Empty row.new places) }
 {
-    let places = row.len();
-    let counted = read_within(bytes, from, 0, places)?;
-    let count = counted.value;
-    let (mut at, mut low) = (counted.next, 0);
+    let count = reader.within(0, places)?;
+    let mut low = 0;
     for _done in 0..count {
-        let place = read_place(bytes, at, low, places)?;
-        row[place.value as usize] = true;
-        low = place.value as usize + 1;
-        at = place.next;
+        let place = read_place(reader, low, places)?;
+        row[place] = true;
+        low = place + 1;
     }
-    Ok(at)
+    Ok(())
 }
 
 // Reads a place that lies above the ones before it and below the place count.
-fn read_place(bytes: &[u8], at: usize, low: usize, places: usize) -> Result<Number, Fault>
-    ensures value { result ≡ entry_at itself bytes.now at low places }
-    ensures inside { IfOk result (λ n. (low ≤ n.value) × (n.value < places) × (n.next ≤ length bytes.now)) }
+fn read_place(reader: &mut Reader<'_>, low: usize, places: usize) -> Result<usize, Fault>
+    ensures same { reader.new.bytes.now ≡ reader.old.bytes.now }
+    ensures value { Answers (entry_at itself reader.old.bytes.now reader.old.at low places) reader.old.at result reader.new.at }
+    ensures inside { IfOk result (λ n. (low ≤ n) × (n < places)) }
 {
-    read_entry::<Place>(bytes, at, low, places)
+    Ok(reader.entry::<Place>(low, places)? as usize)
 }

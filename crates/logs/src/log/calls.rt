@@ -1,55 +1,49 @@
-ghost use Rattle.std.specs.Prelude.{◌≡◌, ◌+◌, ◌<◌, ◌≤◌, true, [], length, take, is_ok, IfOk, Ok, Err, MatchResult};
+ghost use Rattle.std.specs.Prelude.{◌≡◌, ℕ, ◌+◌, ◌<◌, ◌≤◌, true, [], length, take, is_ok, IfOk, Ok, Err, MatchResult};
 ghost use Rattle.lasso.specs.declared.value.Value.TheVariants.{Open};
-ghost use Rattle.numbers.specs.Lists.{list, lists};
+ghost use Rattle.numbers.specs.Lists.{read as read_to, list, lists};
 ghost use Rattle.source.specs.Meanings.{Kept};
 ghost use Rattle.logs.specs.Logs.{place_of, heading as heading_of, parse, said};
 ghost use Rattle.logs.specs.Meanings.{latest_of, known, log_meaning};
 ghost use Rattle.logs.specs.Told.{after_marks, Refused, IsRead};
 ghost use Rattle.logs.specs.Heads.{heading_as, MarksTo, Headed};
 
-use super::super::marks::{Told, read_marks};
+use super::super::marks::read_marks;
 use super::Log;
 use faults::Fault;
 use lasso::{State, Value};
-use numbers::{MOST_BYTES, read_edition, read_within};
+use numbers::{MOST_BYTES, Reader};
 use source::{MOST_INSTANTS, MOST_PLACES, Source};
 
-// What comes before the marks, and the index of the byte after it.
+// What comes before the marks.
 #[derive(Clone, Copy)]
 struct Header {
     places: usize,
     instants: usize,
-    next: usize,
 }
 
 // Reads what comes before the marks.
-fn read_header(bytes: &[u8]) -> Result<Header, Fault>
-    ensures value { MatchResult result (λ h. heading_of bytes.now ≡ Ok (heading_as h)) (λ f. heading_of bytes.now ≡ Err f) }
-    ensures limits { IfOk result (λ h. (h.places ≤ 768) × (h.instants ≤ 16) × (h.next ≤ length bytes.now)) }
+fn read_header(reader: &mut Reader<'_>) -> Result<Header, Fault>
+    requires { reader.old.at ≡ 0 }
+    ensures same { reader.new.bytes.now ≡ reader.old.bytes.now }
+    ensures value { MatchResult result (λ h. heading_of reader.old.bytes.now ≡ Ok (heading_as h reader.new.at)) (λ f. heading_of reader.old.bytes.now ≡ Err f) }
+    ensures limits { IfOk result (λ h. (h.places ≤ 768) × (h.instants ≤ 16)) }
 {
-    let start = read_edition(bytes)?;
-    let places = read_within(bytes, start, 0, MOST_PLACES)?;
-    let instants = read_within(bytes, places.next, 0, MOST_INSTANTS)?;
+    reader.edition()?;
     Ok(Header {
-        places: places.value as usize,
-        instants: instants.value as usize,
-        next: instants.next,
+        places: reader.within(0, MOST_PLACES)?,
+        instants: reader.within(0, MOST_INSTANTS)?,
     })
 }
 
-// Reads the marks of all instants: the index of the byte after them.
-fn read_instants(bytes: &[u8], header: Header) -> Result<usize, Fault>
-    requires places { header.places ≤ 768 }
-    requires next { header.next ≤ length bytes.now }
-    ensures { MatchResult result (λ next. MarksTo bytes.now (heading_as header) next) (λ f. lists place_of bytes.now header.places header.instants header.next [] ≡ Err f) }
+// Reads the marks of all instants.
+fn read_instants(reader: &mut Reader<'_>, header: Header) -> Result<(), Fault>
+    ensures same { reader.new.bytes.now ≡ reader.old.bytes.now }
+    ensures marks { MatchResult result (λ _. MarksTo reader.old.bytes.now (heading_as header reader.old.at) reader.new.at) (λ f. lists place_of reader.old.bytes.now header.places header.instants reader.old.at [] ≡ Err f) }
 {
-    let (places, instants) = (header.places, header.instants);
-    let mut at = header.next;
-    for _done in 0..instants {
-        let told = read_marks(bytes, at, places, 0, Value::Open)?;
-        at = told.next;
+    for _done in 0..header.instants {
+        read_marks(reader, header.places, 0, Value::Open)?;
     }
-    Ok(at)
+    Ok(())
 }
 
 // Whether the bytes are a log.
@@ -59,12 +53,10 @@ fn parsed(bytes: &[u8]) -> Result<(), Fault>
     if bytes.len() > MOST_BYTES {
         return Err(Fault::TooManyBytes);
     }
-    let header = read_header(bytes)?;
-    let end = read_instants(bytes, header)?;
-    if end < bytes.len() {
-        return Err(Fault::BytesLeftOver { place: end });
-    }
-    Ok(())
+    let mut reader = Reader::new(bytes);
+    let header = read_header(&mut reader)?;
+    read_instants(&mut reader, header)?;
+    reader.finish()
 }
 
 // What it means that bytes are a log, or are none.
@@ -74,11 +66,22 @@ fn checked(bytes: &[u8]) -> Result<(), Fault>
     parsed(bytes)
 }
 
+// Reads the header of bytes that are a log.
+#[tactic(auto, using(crate::proofs::Parses::headed))]
+fn sure_header(reader: &mut Reader<'_>) -> Header
+    requires is_log { is_ok (parse reader.old.bytes.now) ≡ true }
+    requires start { reader.old.at ≡ 0 }
+    ensures same { reader.new.bytes.now ≡ reader.old.bytes.now }
+    ensures headed { Headed reader.old.bytes.now result reader.new.at }
+{
+    read_header(reader).unwrap()
+}
+
 // The header of a log that was read.
 fn header_of(log: &Log<'_>) -> Header
-    ensures { Headed log.now.bytes.now result }
+    ensures { (next : ℕ) × Headed log.now.bytes.now result next }
 {
-    read_header(log.bytes).unwrap()
+    sure_header(&mut Reader::new(log.bytes))
 }
 
 impl<'a> Log<'a> {
@@ -125,34 +128,32 @@ fn value_in(log: &Log<'_>, place: usize, state: usize) -> Value
     ensures value { result ≡ (log_meaning (said log.now.bytes.now)).value place state }
     ensures kept { Kept (log_meaning (said log.now.bytes.now)) }
 {
-    let header = header_of(log);
+    let mut reader = Reader::new(log.bytes);
+    let header = sure_header(&mut reader);
     if place >= header.places || state >= header.instants {
         return Value::Open;
     }
-    latest_at(log, header, place, state)
+    latest_at(&mut reader, header, place, state)
 }
 
-// The value of the latest mark of a place, up to an instant of the log.
-fn latest_at(log: &Log<'_>, header: Header, place: usize, instant: usize) -> Value
-    requires headed { Headed log.now.bytes.now header }
+// The value of the latest mark of a place, up to an instant of the log, read from the first mark on.
+fn latest_at(reader: &mut Reader<'_>, header: Header, place: usize, instant: usize) -> Value
+    requires headed { Headed reader.old.bytes.now header reader.old.at }
     requires inside { instant < header.instants }
-    ensures { result ≡ latest_of place Open (take (instant + 1) (said log.now.bytes.now).marks) }
+    ensures { result ≡ latest_of place Open (take (instant + 1) (said reader.old.bytes.now).marks) }
 {
-    let bytes = log.bytes;
-    let places = header.places;
-    let (mut at, mut value) = (header.next, Value::Open);
+    let mut value = Value::Open;
     for _done in 0..instant + 1 {
-        let told = sure_marks(bytes, at, places, place, value);
-        at = told.next;
-        value = told.value;
+        value = sure_marks(reader, header.places, place, value);
     }
     value
 }
 
 // Reads the marks of an instant where they are known to be in order.
-fn sure_marks(bytes: &[u8], at: usize, places: usize, place: usize, value: Value) -> Told
-    requires { is_ok (list place_of bytes.now places at) ≡ true }
-    ensures { after_marks place value (list place_of bytes.now places at) ≡ Ok result }
+fn sure_marks(reader: &mut Reader<'_>, places: usize, place: usize, value: Value) -> Value
+    requires { is_ok (list place_of reader.old.bytes.now places reader.old.at) ≡ true }
+    ensures same { reader.new.bytes.now ≡ reader.old.bytes.now }
+    ensures value { after_marks place value (list place_of reader.old.bytes.now places reader.old.at) ≡ Ok (read_to result reader.new.at) }
 {
-    read_marks(bytes, at, places, place, value).unwrap()
+    read_marks(reader, places, place, value).unwrap()
 }

@@ -1,43 +1,30 @@
-use Rattle.std.proofs.Common.{◌≡◌, ◌+◌, ◌-◌, cond, eqb, sym, ap, ◌∙◌, arith}
+use Rattle.std.proofs.Common.{◌≡◌, ◌+◌, ◌-◌, sym, ap, ◌∙◌, subst, arith}
 use Rattle.std.proofs.lemmas.Result.{err_from_is_err_and}
-use Rattle.logs.specs.Told.{scan}
-use Rattle.logs.proofs.Scans.{no_mark, scan_mark, scan_err, scan_done, scan_list}
+use Rattle.logs.specs.Told.{mark_at}
+use Rattle.numbers.specs.Lists.{entry}
+use Rattle.logs.specs.Logs.{place_of}
+use Rattle.logs.proofs.Scans.{Scanned, scan_more, scan_wrong}
 use Rattle.logs.proofs.marks.read_marks.Goals as goal
 
-pub loop-done-init : goal.loop-done-init
-loop-done-init c =
-    let v = c.in_ok-counted.counted in
-    let d : v.value - 0 ≡ v.value = omega arith in
-    (ap (λ k. scan c.args.place c.args.bytes.now c.args.places k 0 v.next c.args.value) d, c.in_ok-counted.ensures.inside.3)
-
-pub returns-in_err-mark : goal.returns-in_err-mark
-returns-in_err-mark c =
+pub returns-in_err-mark-clause-value : goal.returns-in_err-mark-clause-value
+returns-in_err-mark-clause-value c =
     let q = err_from_is_err_and c.from_residual-in_err-mark.result c.from_residual-in_err-mark.ensures.1 in
     let a = c.args in
-    let v = c.in_ok-counted.counted in
-    let s = scan_list a.place a.bytes.now a.places a.from a.value v (sym c.in_ok-counted.ensures.value) in
-    let t = scan_err a.place a.bytes.now a.places (v.value - c.loop-done._done) c.loop-done.low c.loop-done.at c.loop-done.latest _ (omega arith) (no_mark _ _ (sym c.in_err-mark.ensures.value)) in
-    rw (q.1, q.2) (record { value = sym (s ∙ sym c.loop-done.invariant.0 ∙ t); inside = tt })
+    let i = c.loop-done.invariant in
+    let e = ap (λ b. entry place_of b c.loop-done.reader.at c.loop-done.low a.places) (sym i.0) ∙ c.in_err-mark.ensures.value in
+    rw (q.1, q.2) (scan_wrong a.reader.now.bytes.now a.places a.reader.now.at a.place a.value (c.in_ok-count.count - c.loop-done._done) c.loop-done.low c.loop-done.reader.at c.loop-done.latest _ (omega arith) i.1 e)
 
 pub loop-done-preserved : goal.loop-done-preserved
 loop-done-preserved c =
     let a = c.args in
-    let v = c.in_ok-counted.counted in
+    let bs = a.reader.now.bytes.now in
+    let i = c.loop-done.invariant in
     let m = c.in_ok-mark.mark in
-    let less : v.value - c.loop-done._done - 1 ≡ v.value - (c.loop-done._done + 1) = omega arith in
-    let got = scan_mark a.place a.bytes.now a.places (v.value - c.loop-done._done) c.loop-done.low c.loop-done.at c.loop-done.latest m (omega arith) (sym c.in_ok-mark.ensures.value) in (
-      ap (scan a.place a.bytes.now a.places (v.value - (c.loop-done._done + 1)) (m.place + 1) m.next) c.after-latest.ensures
-          ∙ ap (λ k. scan a.place a.bytes.now a.places k (m.place + 1) m.next (cond (eqb m.place a.place) m.value c.loop-done.latest)) (sym less) ∙ sym got ∙ c.loop-done.invariant.0,
-      c.in_ok-mark.ensures.inside.1,
+    let next = c.read_mark.new.reader.at in
+    let less : c.in_ok-count.count - c.loop-done._done - 1 ≡ c.in_ok-count.count - (c.loop-done._done + 1) = omega arith in
+    let e = ap (λ b. mark_at b c.loop-done.reader.at c.loop-done.low a.places) (sym i.0) ∙ c.in_ok-mark.ensures.value in
+    let s = scan_more bs a.places a.reader.now.at a.place a.value (c.in_ok-count.count - c.loop-done._done) c.loop-done.low c.loop-done.reader.at next c.loop-done.latest m (omega arith) i.1 e in (
+      c.read_mark.ensures.same ∙ i.0,
+      subst (λ k. Scanned bs a.places a.reader.now.at k (m.place + 1) next a.place a.value c.after-latest.result) less
+          (subst (Scanned bs a.places a.reader.now.at (c.in_ok-count.count - c.loop-done._done - 1) (m.place + 1) next a.place a.value) (sym c.after-latest.ensures) s),
     )
-
-pub returns : goal.returns
-returns c =
-    let a = c.args in
-    let v = c.in_ok-counted.counted in
-    let none : v.value - c.loop-done._done ≡ 0 = omega arith in
-    let s = scan_list a.place a.bytes.now a.places a.from a.value v (sym c.in_ok-counted.ensures.value) in
-    record {
-      value = sym (s ∙ sym c.loop-done.invariant.0 ∙ scan_done a.place a.bytes.now a.places _ c.loop-done.low c.loop-done.at c.loop-done.latest none);
-      inside = c.loop-done.invariant.1;
-    }

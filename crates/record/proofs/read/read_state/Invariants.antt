@@ -1,10 +1,8 @@
-use Rattle.std.proofs.Common.{◌≡◌, ◌-◌, ◌≤◌, [], length}
-use Rattle.numbers.specs.Lists.{entries}
-use Rattle.record.specs.Records.{itself, helds}
-use Rattle.record.proofs.Taken.{Blank}
+use Rattle.std.proofs.Common.{◌≡◌, ◌-◌}
+use Rattle.record.proofs.Taken.{Filling}
 use Rattle.record.proofs.read.read_state.Given as goal
 
 abbrev pub invariant-loop-done : goal.invariant-loop-done
 invariant-loop-done l =
-    (entries itself l.bytes (length l.initial.row) (l.count - l._done) l.low l.at (helds 0 l.row) ≡ entries itself l.bytes (length l.initial.row) l.count 0 l.initial.at [])
-    × Blank l.low l.row × (l.at ≤ length l.bytes)
+    (l.reader.bytes.now ≡ l.fn.reader.bytes.now)
+    × Filling l.fn.reader.bytes.now l.places l.fn.reader.at (l.count - l._done) l.low l.reader.at l.row

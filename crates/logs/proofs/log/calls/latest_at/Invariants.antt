@@ -7,5 +7,7 @@ use Rattle.logs.proofs.log.calls.latest_at.Given as goal
 
 abbrev pub invariant-loop-done : goal.invariant-loop-done
 invariant-loop-done l =
-    Seen l.bytes l.places ((said l.bytes).instants - l._done) l.at l._done (said l.bytes).marks
-    × (l.value ≡ latest_of l.place Open (take l._done (said l.bytes).marks))
+    let bs = l.fn.reader.bytes.now in
+    (l.reader.bytes.now ≡ bs)
+    × Seen bs l.header.places ((said bs).instants - l._done) l.reader.at l._done (said bs).marks
+    × (l.value ≡ latest_of l.place Open (take l._done (said bs).marks))
