@@ -4,11 +4,11 @@ use Rattle.std.proofs.lemmas.List.{length-map}
 use Rattle.std.proofs.lemmas.List.FromFn.{sum_by-map-range_with_len_more}
 use Rattle.std.specs.List.{range_with_len}
 use Rattle.problem.specs.declared.problem.Problem.{Problem}
-use Rattle.problem.specs.declared.relation.Arity.{Arity}
-use Rattle.problem.specs.declared.relation.Arity.TheVariants.{One, Two}
-use Rattle.problem.specs.Free.{size_of, sizes}
+use Rattle.relations.specs.declared.relation.Arity.{Arity}
+use Rattle.relations.specs.declared.relation.Arity.TheVariants.{One, Two}
+use Rattle.relations.specs.Free.{size_of, sizes}
 use Rattle.problem.specs.Problems.{atoms_in, relations_in, sizes_in}
-use Rattle.problem.specs.Relations.{Declared, atom_name}
+use Rattle.relations.specs.Relations.{Declared, atom_name}
 use native.Mathlib.Nat.{mul-le-mul}
 use Rattle.places.specs.Places.{before}
 use Rattle.places.proofs.Numbering.{before_more, few_relations, sizes_len}
