@@ -10,7 +10,7 @@ ghost use Rattle.formulas.specs.Parsers.{answer, from};
 use super::parser::Parser;
 use super::sketch::{Bracket, close, open};
 use super::start::{Head, head_of, operator_of};
-use super::wish::{Wish, ask};
+use super::wish::{Wish, Wishes, ask};
 use faults::Fault;
 use names::Name;
 use problem::{Kind, MOST_PARTS, Node, Turn};
@@ -29,7 +29,7 @@ impl Parser<'_> {
         ensures { answer result self.new brackets.new ≡ from self.old brackets.old (expression_of levels wish) }
     {
         let place = self.tokens.place();
-        let part = self.primary(brackets, levels, None, wish)?;
+        let part = self.primary(brackets, levels, Wishes::of_whole(wish))?;
         self.primes(place, wish, part)
     }
 
@@ -42,7 +42,7 @@ impl Parser<'_> {
     ) -> Result<usize, Fault>
         ensures { answer result self.new brackets.new ≡ from self.old brackets.old (after_name (spelling name) place) }
     {
-        let part = self.sketch.named(name, place, None, None)?;
+        let part = self.sketch.named(name, place, Wishes::of_whole(None))?;
         self.primes(place, None, part)
     }
 
@@ -66,15 +66,14 @@ impl Parser<'_> {
         &mut self,
         brackets: &mut Stack<'_, Bracket>,
         levels: usize,
-        under: Option<Wish>,
-        wish: Option<Wish>,
+        wishes: Wishes,
     ) -> Result<usize, Fault>
-        ensures { answer result self.new brackets.new ≡ from self.old brackets.old (primary_of levels under wish) }
+        ensures { answer result self.new brackets.new ≡ from self.old brackets.old (primary_of levels wishes.under wishes.whole) }
     {
         if levels == 0 {
             return Err(self.tokens.refuse());
         }
-        self.begin(brackets, levels - 1, under, wish)
+        self.begin(brackets, levels - 1, wishes)
     }
 
     // Reads a part by what it begins with.
@@ -83,10 +82,9 @@ impl Parser<'_> {
         &mut self,
         brackets: &mut Stack<'_, Bracket>,
         levels: usize,
-        under: Option<Wish>,
-        wish: Option<Wish>,
+        wishes: Wishes,
     ) -> Result<usize, Fault>
-        ensures { answer result self.new brackets.new ≡ from self.old brackets.old (begun (primary_of levels) under wish) }
+        ensures { answer result self.new brackets.new ≡ from self.old brackets.old (begun (primary_of levels) wishes.under wishes.whole) }
     {
         let place = self.tokens.place();
         let Some(head) = head_of(&self.tokens) else {
@@ -95,15 +93,15 @@ impl Parser<'_> {
         self.tokens.advance();
         match head {
             Head::Name(name) => {
-                let wish = self.at_end(wish);
-                self.sketch.named(name, place, under, wish)
+                let wishes = self.at_end(wishes);
+                self.sketch.named(name, place, wishes)
             }
             Head::Constant(constant) => {
-                let wish = self.at_end(wish);
-                self.sketch.constant(constant, place, under, wish)
+                let wishes = self.at_end(wishes);
+                self.sketch.constant(constant, place, wishes)
             }
-            Head::Turn(turn) => self.turned(brackets, levels, turn, place, wish),
-            Head::Open => self.bracketed(brackets, levels, place, under, wish),
+            Head::Turn(turn) => self.turned(brackets, levels, turn, place, wishes.whole),
+            Head::Open => self.bracketed(brackets, levels, place, wishes),
         }
     }
 
@@ -115,13 +113,16 @@ impl Parser<'_> {
         levels: usize,
         turn: Turn,
         place: usize,
-        wish: Option<Wish>,
+        whole: Option<Wish>,
     ) -> Result<usize, Fault>
-        ensures { answer result self.new brackets.new ≡ from self.old brackets.old (turned_of (primary_of levels) turn place wish) }
+        ensures { answer result self.new brackets.new ≡ from self.old brackets.old (turned_of (primary_of levels) turn place whole) }
     {
         self.sketch.count(place)?;
-        let under = Some(Wish { arity: 2, place });
-        let operand = self.primary(brackets, levels, under, wish)?;
+        let wishes = Wishes {
+            under: Some(Wish { arity: 2, place }),
+            whole,
+        };
+        let operand = self.primary(brackets, levels, wishes)?;
         self.sketch
             .put(Kind::Expression, Node::Turned(turn, operand), place)
     }
@@ -133,10 +134,9 @@ impl Parser<'_> {
         brackets: &mut Stack<'_, Bracket>,
         levels: usize,
         place: usize,
-        under: Option<Wish>,
-        wish: Option<Wish>,
+        wishes: Wishes,
     ) -> Result<usize, Fault>
-        ensures { answer result self.new brackets.new ≡ from self.old brackets.old (bracketed (expression_of levels) place under wish) }
+        ensures { answer result self.new brackets.new ≡ from self.old brackets.old (bracketed (expression_of levels) place wishes.under wishes.whole) }
     {
         open(brackets, place)?;
         let left = self.expression(brackets, levels, None)?;
@@ -147,7 +147,7 @@ impl Parser<'_> {
         self.tokens.advance();
         self.sketch.count(at)?;
         let right = self.expression(brackets, levels, None)?;
-        self.combined(brackets, Node::Combined(operator, left, right), under, wish)
+        self.combined(brackets, Node::Combined(operator, left, right), wishes)
     }
 
     // Reads the bracket that closes, and puts what stands in the brackets.
@@ -155,10 +155,9 @@ impl Parser<'_> {
         &mut self,
         brackets: &mut Stack<'_, Bracket>,
         node: Node,
-        under: Option<Wish>,
-        wish: Option<Wish>,
+        wishes: Wishes,
     ) -> Result<usize, Fault>
-        ensures { answer result self.new brackets.new ≡ from self.old brackets.old (combined_of node under wish) }
+        ensures { answer result self.new brackets.new ≡ from self.old brackets.old (combined_of node wishes.under wishes.whole) }
     {
         let Some(place) = close(brackets) else {
             return Err(self.tokens.refuse());
@@ -166,13 +165,25 @@ impl Parser<'_> {
         self.tokens.expect(Mark::CloseBracket)?;
         let whole = self.sketch.put(Kind::Expression, node, place)?;
         let arity = self.sketch.arity(whole);
-        ask(under, arity)?;
-        ask(self.at_end(wish), arity)?;
+        let asked = self.at_end(wishes);
+        ask(asked.under, arity)?;
+        ask(asked.whole, arity)?;
         Ok(whole)
     }
 
+    // What is asked after the last token of an expression: nothing yet of the whole where a ' sign goes on with it.
+    fn at_end(&self, wishes: Wishes) -> Wishes
+        ensures under { result.under ≡ wishes.under }
+        ensures whole { result.whole ≡ at_end wishes.whole (cursor self.now.tokens) }
+    {
+        Wishes {
+            under: wishes.under,
+            whole: self.whole_wish(wishes.whole),
+        }
+    }
+
     // What is asked of a whole expression after one of its tokens: nothing yet where a ' sign goes on with it.
-    fn at_end(&self, wish: Option<Wish>) -> Option<Wish>
+    fn whole_wish(&self, wish: Option<Wish>) -> Option<Wish>
         ensures { result ≡ at_end wish (cursor self.now.tokens) }
     {
         if self.tokens.is(Mark::Prime) {
@@ -187,7 +198,7 @@ impl Parser<'_> {
     {
         let at = self.tokens.place();
         self.tokens.advance();
-        ask(self.at_end(wish), self.sketch.arity(part))?;
+        ask(self.whole_wish(wish), self.sketch.arity(part))?;
         self.sketch.count(at)?;
         self.sketch.put(Kind::Expression, Node::Next(part), place)
     }

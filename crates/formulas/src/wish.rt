@@ -1,4 +1,4 @@
-ghost use Rattle.std.specs.Prelude.{◌≡◌};
+ghost use Rattle.std.specs.Prelude.{◌≡◌, None};
 ghost use Rattle.formulas.specs.Outcomes.{asked};
 
 use faults::Fault;
@@ -8,6 +8,23 @@ use faults::Fault;
 pub struct Wish {
     pub arity: usize,
     pub place: usize,
+}
+
+// What is asked of an expression: by a sign right before it, and of the whole that it ends.
+#[derive(Clone, Copy)]
+pub struct Wishes {
+    pub under: Option<Wish>,
+    pub whole: Option<Wish>,
+}
+
+impl Wishes {
+    // Nothing is asked by a sign before.
+    pub(crate) fn of_whole(whole: Option<Wish>) -> Wishes
+        ensures under { result.under ≡ None }
+        ensures whole { result.whole ≡ whole }
+    {
+        Wishes { under: None, whole }
+    }
 }
 
 // Refuses an arity that is not wished for.

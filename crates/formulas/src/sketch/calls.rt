@@ -5,7 +5,7 @@ ghost use Rattle.formulas.specs.Bodies.{body, begun};
 ghost use Rattle.tokens.specs.Outcomes.{changes};
 ghost use Rattle.formulas.specs.Outcomes.{counted, putting, misfitting, arity_in, resolved, leafed, naming, meant_constant, known, bindable, bindable_by, bound as binding_of, unbound};
 
-use super::super::wish::{Wish, ask};
+use super::super::wish::{Wishes, ask};
 use super::{Scope, Sketch, Variable};
 use faults::Fault;
 use names::{Name, Named, lookup};
@@ -114,33 +114,21 @@ impl Sketch {
     }
 
     // Puts a name or constant, which is a whole expression; its arity is judged before the part is counted.
-    pub fn leaf(
-        &mut self,
-        meant: Meant,
-        place: usize,
-        under: Option<Wish>,
-        wish: Option<Wish>,
-    ) -> Result<usize, Fault>
-        ensures { changes result (body self.new) ≡ leafed meant place under wish (body self.old) }
+    pub fn leaf(&mut self, meant: Meant, place: usize, wishes: Wishes) -> Result<usize, Fault>
+        ensures { changes result (body self.new) ≡ leafed meant place wishes.under wishes.whole (body self.old) }
     {
-        ask(under, meant.arity)?;
-        ask(wish, meant.arity)?;
+        ask(wishes.under, meant.arity)?;
+        ask(wishes.whole, meant.arity)?;
         self.count(place)?;
         self.put(Kind::Expression, meant.node, place)
     }
 
     // Puts what a name stands for.
-    pub fn named(
-        &mut self,
-        name: Name,
-        place: usize,
-        under: Option<Wish>,
-        wish: Option<Wish>,
-    ) -> Result<usize, Fault>
-        ensures { changes result (body self.new) ≡ naming (spelling name) place under wish (body self.old) }
+    pub fn named(&mut self, name: Name, place: usize, wishes: Wishes) -> Result<usize, Fault>
+        ensures { changes result (body self.new) ≡ naming (spelling name) place wishes.under wishes.whole (body self.old) }
     {
         let meant = self.resolve(name, place)?;
-        self.leaf(meant, place, under, wish)
+        self.leaf(meant, place, wishes)
     }
 
     // Puts a constant.
@@ -148,16 +136,15 @@ impl Sketch {
         &mut self,
         constant: Constant,
         place: usize,
-        under: Option<Wish>,
-        wish: Option<Wish>,
+        wishes: Wishes,
     ) -> Result<usize, Fault>
-        ensures { changes result (body self.new) ≡ leafed (meant_constant constant) place under wish (body self.old) }
+        ensures { changes result (body self.new) ≡ leafed (meant_constant constant) place wishes.under wishes.whole (body self.old) }
     {
         let meant = Meant {
             node: Node::Constant(constant),
             arity: constant.arity(),
         };
-        self.leaf(meant, place, under, wish)
+        self.leaf(meant, place, wishes)
     }
 
     // Whether a name is that of an atom, a relation or a variable in scope.
