@@ -87,8 +87,5 @@ fn finish(sketch: Sketch) -> Problem
     requires { Whole (sorts_of sketch.draft) }
     ensures { contents result ≡ contents_of (body sketch) }
 {
-    match sketch.into_draft().whole() {
-        Some(problem) => problem,
-        None => unreachable!(),
-    }
+    sketch.into_draft().whole().unwrap()
 }
