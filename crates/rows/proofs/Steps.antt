@@ -9,9 +9,6 @@ back_more f v w i pos h =
     let g : i - 1 + 1 ≡ i = omega arith in
     ap (λ (n : ℕ). back f v n (i - 1)) e ∙ ap (λ (k : ℕ). f (i - 1) (back f v (w - i) k)) g
 
-pub back_none : (f : ℕ → Value → Value) (v : Value) (w : ℕ) → back f v (w - w) w ≡ v
-back_none f v w = let e : w - w ≡ zero = omega arith in ap (λ (n : ℕ). back f v n w) e
-
 -- a walk from what a walk once round came to
 pub round_is : (f : ℕ → Value → Value) (v u : Value) (w p i : ℕ) → p ≤ w → u ≡ back f v (w - (w - p)) (w - p) → back f u (w - i) i ≡ round w p f v i
 round_is f v u w p i h e =
