@@ -36,7 +36,8 @@ impl Evaluator<'_> {
             .tested(test, self.setting.atoms)
     }
 
-    // At each instant, whether the expression of one node is in that of another, or the same.
+    // At each instant, whether the expression of one node is in that of another, or the same. What the node says comes in its parts,
+    // here and below: a struct of them would be put together from the pattern, and read at once.
     pub(crate) fn compared_row(
         &self,
         variables: &[usize; 4],

@@ -23,7 +23,6 @@ impl Evaluator<'_> {
     pub(crate) fn kept_row(&self, node: usize) -> Option<Row>
         ensures { IfSome result (λ r. (e : List ℕ) → length e ≡ 4 → RowIs self.now.setting.window.instants r.values (row_at self.now.setting e node)) }
     {
-        let row = self.rows.get(node)?;
-        Some(*row)
+        self.rows.get(node).copied()
     }
 }
