@@ -23,62 +23,65 @@ impl Tuples {
         ensures join { JoinAtAtoms }
         ensures product { ProductAtAtoms }
     {
+        let operands = Operands {
+            left: self,
+            right: other,
+            atoms,
+        };
         match operator.outcome(self.arity, other.arity) {
-            Some(arity) => Tuples::tabled(
-                arity,
-                atoms,
-                |r| self.combined_value(operator, other, atoms, r),
-            ),
+            Some(arity) => Tuples::tabled(arity, atoms, |r| operands.combined_value(operator, r)),
             None => Tuples::constant(Constant::None, atoms),
         }
     }
+}
 
-    // The value of a tuple that comes of two sets of tuples.
-    fn combined_value(
-        &self,
-        operator: Operator,
-        other: &Tuples,
-        atoms: Atoms,
-        tuple: usize,
-    ) -> Value
-        ensures { result ≡ combined_table operator atoms.count other.now.arity (table_of self.now) (table_of other.now) tuple }
+// Two sets of tuples that are combined, and the atoms that they are of.
+#[derive(Clone, Copy)]
+struct Operands<'t> {
+    left: &'t Tuples,
+    right: &'t Tuples,
+    atoms: Atoms,
+}
+
+impl Operands<'_> {
+    // The value of a tuple that comes of the two.
+    fn combined_value(&self, operator: Operator, tuple: usize) -> Value
+        ensures { result ≡ combined_table operator self.now.atoms.count self.now.right.now.arity (table_of self.now.left.now) (table_of self.now.right.now) tuple }
     {
         match operator {
-            Operator::Union => self.value(tuple).greater(other.value(tuple)),
-            Operator::Difference => self.value(tuple).smaller(!other.value(tuple)),
-            Operator::Intersection => self.value(tuple).smaller(other.value(tuple)),
-            Operator::Product => self.product_value(other, atoms, tuple),
-            Operator::Join => self.join_value(other, atoms, tuple),
+            Operator::Union => self.left.value(tuple).greater(self.right.value(tuple)),
+            Operator::Difference => self.left.value(tuple).smaller(!self.right.value(tuple)),
+            Operator::Intersection => self.left.value(tuple).smaller(self.right.value(tuple)),
+            Operator::Product => self.product_value(tuple),
+            Operator::Join => self.join_value(tuple),
         }
     }
 
     // The value of two tuples side by side.
-    fn product_value(&self, other: &Tuples, atoms: Atoms, tuple: usize) -> Value
-        ensures { result ≡ product_table (tuples_of atoms.count other.now.arity) (table_of self.now) (table_of other.now) tuple }
+    fn product_value(&self, tuple: usize) -> Value
+        ensures { result ≡ product_table (tuples_of self.now.atoms.count self.now.right.now.arity) (table_of self.now.left.now) (table_of self.now.right.now) tuple }
     {
-        let width = atoms.tuples(other.arity);
-        let left = self.value(tuple / width);
-        let right = other.value(tuple % width);
+        let width = self.atoms.tuples(self.right.arity);
+        let left = self.left.value(tuple / width);
+        let right = self.right.value(tuple % width);
         left.smaller(right)
     }
 
     // The greatest value of two tuples that meet at an atom.
-    fn join_value(&self, other: &Tuples, atoms: Atoms, tuple: usize) -> Value
-        ensures { result ≡ join_table atoms.count (tuples_of atoms.count (other.now.arity - 1)) (table_of self.now) (table_of other.now) tuple }
+    fn join_value(&self, tuple: usize) -> Value
+        ensures { result ≡ join_table self.now.atoms.count (tuples_of self.now.atoms.count (self.now.right.now.arity - 1)) (table_of self.now.left.now) (table_of self.now.right.now) tuple }
     {
-        highest(
-            atoms.count(),
-            |atom| self.met_value(other, atoms, tuple, atom),
-        )
+        highest(self.atoms.count(), |atom| self.met_value(tuple, atom))
     }
 
     // The value of two tuples that meet at an atom, and come to a tuple.
-    fn met_value(&self, other: &Tuples, atoms: Atoms, tuple: usize, atom: usize) -> Value
-        ensures { let width = tuples_of atoms.count (other.now.arity - 1) in result ≡ smaller (table_of self.now (tuple / width * atoms.count + atom)) (table_of other.now (atom * width + tuple % width)) }
+    fn met_value(&self, tuple: usize, atom: usize) -> Value
+        ensures { let width = tuples_of self.now.atoms.count (self.now.right.now.arity - 1) in result ≡ smaller (table_of self.now.left.now (tuple / width * self.now.atoms.count + atom)) (table_of self.now.right.now (atom * width + tuple % width)) }
     {
-        let width = atoms.tuples(other.arity - 1);
-        let left = self.value_of_two(tuple / width, atoms.count(), atom);
-        let right = other.value_of_two(atom, width, tuple % width);
+        let count = self.atoms.count();
+        let width = self.atoms.tuples(self.right.arity - 1);
+        let left = self.left.value_of_two(tuple / width, count, atom);
+        let right = self.right.value_of_two(atom, width, tuple % width);
         left.smaller(right)
     }
 }
