@@ -27,7 +27,8 @@ impl Evaluator<'_> {
         Row::spread(&values, self.setting.table.shape(), self.setting.window)
     }
 
-    // In a state, whether the expression of a node has some tuple, or none.
+    // In a state, whether the expression of a node has some tuple, or none. It stands outside the closure above, since a proof cannot
+    // name what the first of two calls in a closure gave.
     fn tested_value(&self, variables: &[usize; 4], test: Test, part: usize, state: State) -> Value
         requires { part < length (nodes_in self.now.setting.problem.now) }
         ensures { ValueIn self.now.setting.table.now state.0 result (λ i. tested_of test (tuples_of self.now.setting.atoms.count (arity (expr_in self.now.setting.problem.now part))) (table_of_node self.now.setting variables.now part i)) }
@@ -36,8 +37,8 @@ impl Evaluator<'_> {
             .tested(test, self.setting.atoms)
     }
 
-    // At each instant, whether the expression of one node is in that of another, or the same. What the node says comes in its parts,
-    // here and below: a struct of them would be put together from the pattern, and read at once.
+    // At each instant, whether the expression of one node is in that of another, or the same. What the node says comes in its parts:
+    // a struct of them would be put together from the pattern, and read at once.
     pub(crate) fn compared_row(
         &self,
         variables: &[usize; 4],
@@ -56,7 +57,7 @@ impl Evaluator<'_> {
         Row::spread(&values, self.setting.table.shape(), self.setting.window)
     }
 
-    // In a state, whether the expression of one node is in that of another, or the same.
+    // In a state, whether the expression of one node is in that of another, or the same: the closure's parts and its state.
     fn compared_value(
         &self,
         variables: &[usize; 4],
