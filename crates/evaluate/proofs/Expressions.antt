@@ -5,6 +5,7 @@ use Rattle.std.specs.Prelude.{slice_index, slice_index_or}
 use Rattle.lasso.specs.declared.value.Value.{Value}
 use Rattle.lasso.specs.declared.value.Value.TheVariants.{Open}
 use Rattle.lasso.specs.Lassos.{state_at, following}
+use Rattle.lasso.proofs.Folds.{state_at_below}
 use Rattle.problem.specs.declared.node.Node.{Node}
 use Rattle.problem.specs.declared.node.Node.TheVariants as node
 use Rattle.problem.specs.declared.node.Constant.{Constant}
@@ -38,9 +39,6 @@ pub stated_is : (n : ℕ) (p : Problem) (t : Table) (e : List ℕ) (i s : ℕ) (
 stated_is n p t e i s x r q h =
     let g : Stated n t e (expr_in p i) s r = subst (λ (y : Expr). Stated n t e y s r) (sym q) h in
     record { atoms = g.0; value = g.1 }
-
-pub is_stated : (n : ℕ) (p : Problem) (t : Table) (e : List ℕ) (i s : ℕ) (r : Tuples) → ExpressionIs n p t e i s r → Stated n t e (expr_in p i) s r
-is_stated n p t e i s r h = (h.atoms, h.value)
 
 fit : (o : Operator) (a b : ℕ) → 0 < a → 0 < b → suits o a b ≡ true → Suited o a b
 fit o a b h m e = suited o a b (both_true (lt-ltb 0 a h) (both_true (lt-ltb 0 b m) e))
@@ -84,15 +82,16 @@ module _ (n : ℕ) (p : Problem) (t : Table) (e : List ℕ) (i s : ℕ) (there :
             (subst (λ (y : ℕ). Same (tuples n y) (table_of x) (expr_table n (path_of t) (expr_in p a) e j)) two (part.value j at)) q l,
       )
 
-  pub next_is : (a m : ℕ) → node_at (nodes_in p) i ≡ node.Next a → m ≡ following t.shape.states t.shape.loop_start s → ExpressionIs n p t e a m r → ExpressionIs n p t e i s r
+  pub next_is : (a m : ℕ) → node_at (nodes_in p) i ≡ node.Next a → (s < t.shape.states → m ≡ following t.shape.states t.shape.loop_start s) → ExpressionIs n p t e a m r → ExpressionIs n p t e i s r
   unfolding state_at
   next_is a m h em part =
       let k = next_at (sorted_in p) i there a h in
       stated_is n p t e i s (next (expr_in p a)) r k.tree (
         part.atoms,
         λ j at q l.
+            let below : s < t.shape.states = subst (λ (z : ℕ). z < t.shape.states) at (state_at_below t.shape.states t.shape.loop_start j t.shape.loops) in
             let f : state_at t.shape.states t.shape.loop_start (j + 1) ≡ m =
-            ap (state_at t.shape.states t.shape.loop_start) (add-one j) ∙ ap (following t.shape.states t.shape.loop_start) at ∙ sym em in
+            ap (state_at t.shape.states t.shape.loop_start) (add-one j) ∙ ap (following t.shape.states t.shape.loop_start) at ∙ sym (em below) in
             part.value (j + 1) f q l,
       )
 

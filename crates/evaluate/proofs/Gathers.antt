@@ -3,11 +3,11 @@ use Rattle.std.proofs.Common.{◌≡◌, ℕ, ◌+◌, ◌≤◌, List, replicat
 use Rattle.std.proofs.lemmas.List.{get_or-replicate}
 use Rattle.lasso.specs.declared.value.Value.{Value}
 use Rattle.lasso.specs.declared.value.Value.TheVariants.{No, Yes}
-use Rattle.lasso.specs.Values.{not, smaller, greater}
+use Rattle.lasso.specs.Values.{not}
 use Rattle.problem.specs.declared.node.Quantifier.{Quantifier}
 use Rattle.problem.specs.declared.node.Quantifier.TheVariants as quantifier
 use Rattle.meaning.specs.Tables.{Table, table_at, highest, lowest, quantified_value}
-use Rattle.meaning.specs.Rows.{Row, RowIs, not_row, and_row, or_row, implies_row}
+use Rattle.meaning.specs.Rows.{Row, RowIs, not_row}
 use Rattle.evaluate.specs.Shown.{of_none, gathered}
 
 none : (q : Quantifier) (d f : Table) → of_none q ≡ quantified_value q 0 d f
@@ -39,9 +39,3 @@ no_row w vs few e i h = ap (λ (xs : List Value). table_at xs i) e ∙ get_or-re
 
 pub yes_row : (w : ℕ) (vs row : List Value) → RowIs w vs (λ i. No) → RowIs w row (not_row (table_at vs)) → RowIs w row (λ i. Yes)
 yes_row w vs row z h i k = h i k ∙ ap not (z i k)
-
-pub all_more : (w : ℕ) (a d f held row : List Value) → RowIs w held (implies_row (table_at d) (table_at f)) → RowIs w row (and_row (table_at a) (table_at held)) → RowIs w row (λ i. gathered quantifier.All (table_at a i) (table_at d i) (table_at f i))
-all_more w a d f held row e h i k = h i k ∙ ap (smaller (table_at a i)) (e i k)
-
-pub some_more : (w : ℕ) (a d f held row : List Value) → RowIs w held (and_row (table_at d) (table_at f)) → RowIs w row (or_row (table_at a) (table_at held)) → RowIs w row (λ i. gathered quantifier.Some (table_at a i) (table_at d i) (table_at f i))
-some_more w a d f held row e h i k = h i k ∙ ap (greater (table_at a i)) (e i k)

@@ -17,7 +17,7 @@ use Rattle.meaning.proofs.Nodes.{sorted_in, tree_arity}
 use Rattle.table.specs.declared.table.Table.{Table}
 use Rattle.table.specs.Tables.{path_of}
 use Rattle.tuples.specs.declared.tuples.Tuples.{Tuples}
-use Rattle.tuples.specs.Tabled.{table_of, Tabled}
+use Rattle.tuples.specs.Tabled.{Tabled}
 use Rattle.evaluate.specs.Shown.{expr_in, ExpressionIs}
 use Rattle.evaluate.specs.Known.{Kept}
 use Rattle.evaluate.proofs.Closed.{steady}
@@ -40,8 +40,3 @@ kept_is n p t e i s a vs r few there some closed ea kept tabled =
           let z : 0 + q ≡ q = omega arith in
           tabled.1 q m ∙ ap (λ (y : ℕ). slice_index_or vs y Open) z ∙ kept j at q (omega arith) l ∙ steady n (path_of t) p i there closed no_variable e j q;
     }
-
--- the values of a set of tuples are kept
-pub values_kept :
-    (n : ℕ) (p : Problem) (t : Table) (i s : ℕ) (x : Tuples) (vs : List Value) → ExpressionIs n p t no_variable i s x → ((q : ℕ) → q < 64 → slice_index_or vs q Open ≡ table_of x q) → Kept n p t i s vs
-values_kept n p t i s x vs is same j at q few l = same q few ∙ is.value j at q l

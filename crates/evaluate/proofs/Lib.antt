@@ -4,6 +4,7 @@ pub mod Spread
 pub mod Gathers
 pub mod Formulas
 pub mod Whole
+pub mod Bounds
 pub mod Closed
 pub mod Keeps
 pub mod ClosedRows

@@ -1,7 +1,5 @@
 -- The value of the whole formula, from its row over the window that its past needs.
-use Rattle.std.specs.List.{slice_get}
-use Rattle.std.proofs.lemmas.Option.{slice_get_cases}
-use Rattle.std.proofs.Common.{inl, inr, None, ◌≡◌, ℕ, ◌+◌, ◌-◌, ◌<◌, ◌≤◌, List, length, refl, sym, ap, ◌∙◌, subst, arith}
+use Rattle.std.proofs.Common.{◌≡◌, ℕ, ◌+◌, ◌-◌, ◌<◌, ◌≤◌, List, length, refl, sym, ap, ◌∙◌, subst, arith}
 use Rattle.lasso.specs.declared.value.Value.{Value}
 use Rattle.lasso.specs.declared.shape.Shape.{Shape}
 use Rattle.problem.specs.declared.problem.Problem.{Problem}
@@ -77,12 +75,3 @@ setting_value s p t i row ep et last is =
     let v = whole_value s.atoms.count s.window own s.table.now no_variable i row (table_at row 0) s.counted refl end deep s.again is refl in
     let u = subst (λ (x : Problem). ValueIs (length (atoms_in x)) (path_of s.table.now) (formula_in x) no_variable 0 (table_at row 0)) ep v in
     subst (λ (x : Table). ValueIs (length (atoms_in p)) (path_of x) (formula_in p) no_variable 0 (table_at row 0)) et u
-
--- the last node has a sort
-pub some_sort : (p : Problem) (i : ℕ) → i + 1 ≡ length (nodes_in p) → slice_get (sorts_in p) i ≡ None → ⊥
-some_sort p i h e =
-    let l : i < length (sorts_in p) = omega (arith, (sorted_in p).even) in
-    elim (slice_get_cases (sorts_in p) i).1 [
-      | inl z ↦ let f = z.2 in absurd (cc)
-      | inr z ↦ omega (arith, z.0)
-    ]

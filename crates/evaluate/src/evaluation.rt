@@ -63,12 +63,10 @@ fn setting<'p>(problem: &'p Problem, table: &'p Table) -> Setting<'p>
 }
 
 // How deep in the past the formula of a problem is.
+#[tactic(auto, using(crate::proofs::Bounds::past_within))]
 fn past(problem: &Problem) -> usize
     ensures value { result ≡ past_at (sorts_in problem.now) (length (nodes_in problem.now) - 1) }
     ensures few { result ≤ 4 }
 {
-    match problem.sort(problem.root()) {
-        Some(sort) => sort.past(),
-        None => 0,
-    }
+    problem.sort(problem.root()).map_or(0, |sort| sort.past())
 }

@@ -5,7 +5,9 @@ use super::kept::{Kept, States};
 use super::setting::Setting;
 use rows::Row;
 
-// What the formula of a problem is evaluated by, and what is worked out once: of nodes that use no variable.
+// What the formula of a problem is evaluated by, and what is worked out once: of nodes that use no variable. Its functions take a
+// node's index and ask that there is such a node: a type that says so would hold the problem too, each function would ask that it is
+// this one, and the index is what falls at each recursive call.
 #[derive(Drop)]
 pub(crate) struct Evaluator<'p> {
     pub(crate) setting: Setting<'p>,

@@ -13,10 +13,10 @@ impl Evaluator<'_> {
     // The values of the expression of a node in a state, tuple by tuple; no tuple for a formula.
     #[cycle(expressions)]
     pub(crate) fn expression(&self, variables: &[usize; 4], node: usize, state: State) -> Tuples
-        requires there { node < length (nodes_in self.now.setting.problem.now) }
-        requires state { state.0 < self.now.setting.table.now.shape.states }
+        requires { node < length (nodes_in self.now.setting.problem.now) }
         ensures { ExpressionAt self.now.setting variables.now node state.0 result }
     {
+        // A `match`: the closure of an `unwrap_or_else` would join the recursion, and need a measure of its own.
         match self.kept_expression(node, state) {
             Some(tuples) => tuples,
             None => self.expression_of_parts(variables, node, state),
@@ -26,8 +26,7 @@ impl Evaluator<'_> {
     // The same of the expressions of its parts. The node's index falls at each call.
     #[cycle(expressions)]
     fn expression_of_parts(&self, variables: &[usize; 4], node: usize, state: State) -> Tuples
-        requires there { node < length (nodes_in self.now.setting.problem.now) }
-        requires state { state.0 < self.now.setting.table.now.shape.states }
+        requires { node < length (nodes_in self.now.setting.problem.now) }
         ensures { ExpressionAt self.now.setting variables.now node state.0 result }
     {
         let (problem, table, atoms) = (

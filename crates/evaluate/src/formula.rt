@@ -19,6 +19,7 @@ impl Evaluator<'_> {
         requires { node < length (nodes_in self.now.setting.problem.now) }
         ensures { RowIs self.now.setting.window.instants result.values (row_at self.now.setting variables.now node) }
     {
+        // A `match`: the closure of an `unwrap_or_else` would join the recursion, and need a measure of its own.
         match self.kept_row(node) {
             Some(row) => row,
             None => self.formula_of_parts(variables, node),
@@ -53,7 +54,8 @@ impl Evaluator<'_> {
         }
     }
 
-    // At each instant, whether a formula holds for all atoms of a domain, or for some, with a variable bound to the atom.
+    // At each instant, whether a formula holds for all atoms of a domain, or for some, with a variable bound to the atom. What the
+    // node says comes in its parts: a struct of them would be put together from the pattern, and read at once.
     #[cycle(formulas)]
     fn quantified_row(
         &self,

@@ -15,7 +15,8 @@ pub(crate) fn of_none(quantifier: Quantifier, window: Window) -> Row
     }
 }
 
-// What a quantifier says of one atom more, by whether the atom is one of the domain and whether the formula holds for it.
+// What a quantifier says of one atom more, by whether the atom is one of the domain and whether the formula holds for it. Five values
+// and no struct: the loop that calls it has each by its own name, and no fact ties them.
 pub(crate) fn gathered(
     quantifier: Quantifier,
     row: &Row,

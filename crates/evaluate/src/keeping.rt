@@ -38,8 +38,7 @@ impl Evaluator<'_> {
             values: self.in_each_state(
                 [Value::No; 64],
                 |state| -> [Value; 64]
-                    requires there { node < length (nodes_in self.now.setting.problem.now) }
-                    requires state { state.0 < self.now.setting.table.now.shape.states }
+                    requires { node < length (nodes_in self.now.setting.problem.now) }
                     ensures { FirstAre 64 self.entry.now.setting.atoms.count self.entry.now.setting.problem.now self.entry.now.setting.table.now no_variable node state.0 result }
                 { self.first_values(&[0; 4], node, state) },
             ),
@@ -52,9 +51,18 @@ impl Evaluator<'_> {
     {
         'nodes: for node in 0..self.setting.problem.parts().len() {
             if is_closed(self.setting.problem, node) {
-                let row = self.formula(&[0; 4], node);
-                self.rows.put(node, row);
+                self.keep_row(node);
             }
         }
+    }
+
+    // Works out the row of a node that uses no variable.
+    fn keep_row(&mut self, node: usize)
+        requires there { node < length (nodes_in self.old.setting.problem.now) }
+        requires closed { bound_at (sorts_in self.old.setting.problem.now) node ≡ 0 }
+        ensures { self.new.setting ≡ self.old.setting }
+    {
+        let row = self.formula(&[0; 4], node);
+        self.rows.put(node, row);
     }
 }

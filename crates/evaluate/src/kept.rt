@@ -4,14 +4,15 @@ use lasso::Value;
 use relations::Arity;
 use table::MOST_STATES;
 
-// The values of an expression in each state: those of its first 64 tuples, of one or two atoms.
+// The values of an expression in each state: those of its first 64 tuples, of one or two atoms. Arrays and no `Vec`: evaluation may
+// not run out of memory.
 #[derive(Clone, Copy)]
 pub(crate) struct States {
     pub(crate) arity: Arity,
     pub(crate) values: [[Value; 64]; MOST_STATES],
 }
 
-// What is kept of some nodes, by their numbers. An array, since nothing here asks for memory.
+// What is kept of some nodes, by their numbers. An array and no `Vec`: evaluation may not run out of memory.
 #[derive(Drop)]
 pub(crate) struct Kept<T> {
     pub(crate) items: [Option<T>; 256],
@@ -36,7 +37,7 @@ impl<T: Copy> Kept<T> {
     pub(crate) fn put(&mut self, node: usize, item: T)
         ensures { self.new.items ≡ slice_set self.old.items node (Some item) }
     {
-        // By index: after `get_mut` nothing is known of what was written through it.
+        // By index: std says of a slice's `get_mut` what is there, and nothing of what the slice is after a write.
         if node < self.items.len() {
             self.items[node] = Some(item);
         }

@@ -27,17 +27,18 @@ impl Evaluator<'_> {
         Row::spread(&values, self.setting.table.shape(), self.setting.window)
     }
 
-    // In a state, whether the expression of a node has some tuple, or none.
+    // In a state, whether the expression of a node has some tuple, or none. It stands outside the closure above, since a proof cannot
+    // name what the first of two calls in a closure gave.
     fn tested_value(&self, variables: &[usize; 4], test: Test, part: usize, state: State) -> Value
-        requires part { part < length (nodes_in self.now.setting.problem.now) }
-        requires state { state.0 < self.now.setting.table.now.shape.states }
+        requires { part < length (nodes_in self.now.setting.problem.now) }
         ensures { ValueIn self.now.setting.table.now state.0 result (λ i. tested_of test (tuples_of self.now.setting.atoms.count (arity (expr_in self.now.setting.problem.now part))) (table_of_node self.now.setting variables.now part i)) }
     {
         self.expression(variables, part, state)
             .tested(test, self.setting.atoms)
     }
 
-    // At each instant, whether the expression of one node is in that of another, or the same.
+    // At each instant, whether the expression of one node is in that of another, or the same. What the node says comes in its parts:
+    // a struct of them would be put together from the pattern, and read at once.
     pub(crate) fn compared_row(
         &self,
         variables: &[usize; 4],
@@ -56,7 +57,7 @@ impl Evaluator<'_> {
         Row::spread(&values, self.setting.table.shape(), self.setting.window)
     }
 
-    // In a state, whether the expression of one node is in that of another, or the same.
+    // In a state, whether the expression of one node is in that of another, or the same: the closure's parts and its state.
     fn compared_value(
         &self,
         variables: &[usize; 4],
@@ -68,7 +69,6 @@ impl Evaluator<'_> {
         requires left { left < length (nodes_in self.now.setting.problem.now) }
         requires right { right < length (nodes_in self.now.setting.problem.now) }
         requires alike { arity (expr_in self.now.setting.problem.now left) ≡ arity (expr_in self.now.setting.problem.now right) }
-        requires state { state.0 < self.now.setting.table.now.shape.states }
         ensures { ValueIn self.now.setting.table.now state.0 result (λ i. compared_of comparison (tuples_of self.now.setting.atoms.count (arity (expr_in self.now.setting.problem.now left))) (table_of_node self.now.setting variables.now left i) (table_of_node self.now.setting variables.now right i)) }
     {
         let first = self.expression(variables, left, state);
@@ -88,8 +88,7 @@ impl Evaluator<'_> {
         self.in_each_state(
             [Value::No; 8],
             |state| -> [Value; 8]
-                requires there { domain < length (nodes_in self.now.setting.problem.now) }
-                requires state { state.0 < self.now.setting.table.now.shape.states }
+                requires { domain < length (nodes_in self.now.setting.problem.now) }
                 ensures { FirstAre 8 self.entry.now.setting.atoms.count self.entry.now.setting.problem.now self.entry.now.setting.table.now variables.entry.now domain state.0 result }
             { self.first_values(variables, domain, state) },
         )
@@ -102,8 +101,7 @@ impl Evaluator<'_> {
         node: usize,
         state: State,
     ) -> [Value; N]
-        requires there { node < length (nodes_in self.now.setting.problem.now) }
-        requires state { state.0 < self.now.setting.table.now.shape.states }
+        requires { node < length (nodes_in self.now.setting.problem.now) }
         ensures { FirstAre N self.now.setting.atoms.count self.now.setting.problem.now self.now.setting.table.now variables.now node state.0 result }
     {
         self.expression(variables, node, state).first()
@@ -123,9 +121,12 @@ impl Evaluator<'_> {
         blank: T,
         of_state: F,
     ) -> [T; MOST_STATES]
-        requires { (s : ℕ) → s < self.now.setting.table.now.shape.states → F.pre of_state (record { 0 = s }) }
+        requires { F.IsAlwaysCallable of_state }
         ensures { (s : ℕ) (d : T) → s < self.now.setting.table.now.shape.states → F.post of_state (record { 0 = s }) (slice_index_or result s d) }
     {
+        // By index: in a loop over `iter_mut().enumerate()` no invariant can name the array that is written, and `array::from_fn`
+        // would test each of the 17 states. Tuples and rows fill their own: one fill for all would be public, and ask its callers
+        // for a closure that may be called.
         let mut values = [blank; MOST_STATES];
         'states: for s in 0..self.setting.table.shape().states() {
             values[s] = of_state(State(s));

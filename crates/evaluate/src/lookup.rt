@@ -11,8 +11,7 @@ use tuples::Tuples;
 impl Evaluator<'_> {
     // What is kept of the expression of a node in a state, for any variables.
     pub(crate) fn kept_expression(&self, node: usize, state: State) -> Option<Tuples>
-        requires there { node < length (nodes_in self.now.setting.problem.now) }
-        requires state { state.0 < self.now.setting.table.now.shape.states }
+        requires { node < length (nodes_in self.now.setting.problem.now) }
         ensures { IfSome result (λ r. (e : List ℕ) → ExpressionAt self.now.setting e node state.0 r) }
     {
         let states = self.tables.get(node)?;
@@ -24,7 +23,6 @@ impl Evaluator<'_> {
     pub(crate) fn kept_row(&self, node: usize) -> Option<Row>
         ensures { IfSome result (λ r. (e : List ℕ) → length e ≡ 4 → RowIs self.now.setting.window.instants r.values (row_at self.now.setting e node)) }
     {
-        let row = self.rows.get(node)?;
-        Some(*row)
+        self.rows.get(node).copied()
     }
 }

@@ -33,13 +33,11 @@ pub(crate) fn is_closed(problem: &Problem, node: usize) -> bool
 }
 
 // How many of the variables bound around it a node may use; 0 beyond the last.
+#[tactic(auto, using(crate::proofs::Bounds::bound_within, crate::proofs::Bounds::bound_beyond))]
 fn bound_of(problem: &Problem, node: usize) -> usize
     ensures { result ≡ bound_at (sorts_in problem.now) node }
 {
-    match problem.sort(node) {
-        Some(sort) => sort.bound(),
-        None => 0,
-    }
+    problem.sort(node).map_or(0, |sort| sort.bound())
 }
 
 // The arity of an expression that uses no variable, where that is one or two.
@@ -70,7 +68,7 @@ pub(crate) fn atom_of(variables: &[usize; 4], variable: usize) -> usize
 pub(crate) fn bound(variables: &[usize; 4], variable: usize, atom: usize) -> [usize; 4]
     ensures { result ≡ slice_set variables.now variable atom }
 {
-    // By index: after `get_mut` nothing is known of what was written through it.
+    // By index: std says of a slice's `get_mut` what is there, and nothing of what the slice is after a write.
     let mut inner = *variables;
     if variable < inner.len() {
         inner[variable] = atom;
@@ -78,14 +76,14 @@ pub(crate) fn bound(variables: &[usize; 4], variable: usize, atom: usize) -> [us
     inner
 }
 
-// The state that follows a state.
+// The state that follows a state of a lasso.
 pub(crate) fn next_state(shape: Shape, state: State) -> State
-    requires { state.0 < shape.states }
-    ensures value { result.0 ≡ following shape.states shape.loop_start state.0 }
-    ensures inside { result.0 < shape.states }
+    ensures { state.0 < shape.states → result.0 ≡ following shape.states shape.loop_start state.0 }
 {
-    if state.0 + 1 == shape.states() {
-        return shape.loop_start();
+    let next = State(state.0.saturating_add(1));
+    if next.0 == shape.states() {
+        shape.loop_start()
+    } else {
+        next
     }
-    State(state.0 + 1)
 }

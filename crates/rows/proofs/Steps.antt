@@ -1,17 +1,13 @@
--- The steps of walks, and of rows that are moved by an instant.
-use Rattle.std.proofs.Common.{◌≡◌, ℕ, zero, suc, ◌+◌, ◌-◌, ◌<◌, ◌≤◌, ltb, refl, ap, ◌∙◌, add-one, arith}
-use Rattle.std.proofs.lemmas.Bool.{lt-ltb, le-ltb, cond-true, cond-false}
+-- The steps of walks.
+use Rattle.std.proofs.Common.{◌≡◌, ℕ, zero, suc, ◌+◌, ◌-◌, ◌<◌, ◌≤◌, refl, ap, ◌∙◌, add-one, arith}
 use Rattle.lasso.specs.declared.value.Value.{Value}
-use Rattle.meaning.specs.Rows.{Row, back, forth, round, after_row, before_row}
+use Rattle.meaning.specs.Rows.{back, forth, round}
 
 pub back_more : (f : ℕ → Value → Value) (v : Value) (w i : ℕ) → 0 < i → i ≤ w → back f v (w - (i - 1)) (i - 1) ≡ f (i - 1) (back f v (w - i) i)
 back_more f v w i pos h =
     let e : w - (i - 1) ≡ suc (w - i) = omega arith in
     let g : i - 1 + 1 ≡ i = omega arith in
     ap (λ (n : ℕ). back f v n (i - 1)) e ∙ ap (λ (k : ℕ). f (i - 1) (back f v (w - i) k)) g
-
-pub back_none : (f : ℕ → Value → Value) (v : Value) (w : ℕ) → back f v (w - w) w ≡ v
-back_none f v w = let e : w - w ≡ zero = omega arith in ap (λ (n : ℕ). back f v n w) e
 
 -- a walk from what a walk once round came to
 pub round_is : (f : ℕ → Value → Value) (v u : Value) (w p i : ℕ) → p ≤ w → u ≡ back f v (w - (w - p)) (w - p) → back f u (w - i) i ≡ round w p f v i
@@ -30,13 +26,3 @@ forth_is f v (suc i) = refl
 
 pub prior_more : (f : ℕ → Value → Value) (v : Value) (i : ℕ) → prior f v (i + 1) ≡ forth f v i
 prior_more f v i = ap (prior f v) (add-one i)
-
-pub after_next : (a : Row) (w p i : ℕ) → i + 1 < w → after_row w p a i ≡ a (i + 1)
-after_next a w p i h = cond-true (ltb (i + 1) w) _ _ (lt-ltb (i + 1) w h)
-
-pub after_wraps : (a : Row) (w p i : ℕ) → w ≤ i + 1 → after_row w p a i ≡ a (w - p)
-after_wraps a w p i h = cond-false (ltb (i + 1) w) _ _ (le-ltb (i + 1) w h)
-
-pub before_is : (a : Row) (i : ℕ) → 0 < i → a (i - 1) ≡ before_row a i
-before_is a zero h = absurd (omega arith)
-before_is a (suc i) h = let e : suc i - 1 ≡ i = omega arith in ap a e

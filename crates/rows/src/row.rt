@@ -12,7 +12,7 @@ mod pointwise;
 mod shifts;
 mod walks;
 
-// The values of a formula, one an instant. An array, since nothing here asks for memory.
+// The values of a formula, one an instant. An array and no `Vec`: evaluation may not run out of memory.
 #[derive(Clone, Copy)]
 pub struct Row {
     values: [Value; MOST_INSTANTS],

@@ -7,13 +7,12 @@ mod filled;
 mod folds;
 mod formulas;
 mod leaves;
-mod numbers;
 mod parts;
 mod turned;
 
 pub use formulas::quantified;
 
-// The values of tuples of so many atoms, by the tuples' numbers. An array, since nothing here asks for memory.
+// The values of tuples of so many atoms, by the tuples' numbers. An array and no `Vec`: evaluation may not run out of memory.
 #[derive(Clone, Copy)]
 pub struct Tuples {
     arity: usize,

@@ -35,7 +35,7 @@ impl Row {
     pub fn write(&mut self, instant: Instant, value: Value)
         ensures { self.new.values ≡ slice_set self.old.values instant.0 value }
     {
-        // Tried: `get_mut`, after which nothing is known of what was written through it.
+        // By index: std says of a slice's `get_mut` what is there, and nothing of what the slice is after a write.
         if instant.0 < self.values.len() {
             self.values[instant.0] = value;
         }

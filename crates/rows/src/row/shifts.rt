@@ -25,9 +25,9 @@ impl Row {
     fn value_before(&self, instant: Instant) -> Value
         ensures { result ≡ before_row (table_at self.now.values) instant.0 }
     {
-        match instant.0.checked_sub(1) {
-            Some(earlier) => self.value(Instant(earlier)),
-            None => Value::No,
-        }
+        instant
+            .0
+            .checked_sub(1)
+            .map_or(Value::No, |earlier| self.value(Instant(earlier)))
     }
 }

@@ -30,26 +30,23 @@ impl Atoms {
         ensures beyond { 3 < arity → result ≡ 0 }
         ensures few { result ≤ 512 }
     {
-        let n = self.count;
         match arity {
             0 => 1,
-            1 => times(n, 1),
-            2 => times(n, times(n, 1)),
-            3 => times(n, times(n, times(n, 1))),
+            1 => self.times(1),
+            2 => self.times(self.times(1)),
+            3 => self.times(self.times(self.times(1))),
             _ => 0,
         }
     }
-}
 
-// How many tuples of one more atom there are.
-fn times(atoms: usize, tuples: usize) -> usize
-    requires some_atom { 1 ≤ atoms }
-    requires few_atoms { atoms ≤ 8 }
-    requires some { 1 ≤ tuples }
-    requires few { tuples ≤ 64 }
-    ensures value { result ≡ atoms * tuples }
-    ensures some { 1 ≤ result }
-    ensures few { result ≤ 8 * tuples }
-{
-    atoms * tuples
+    // How many tuples of one more atom there are.
+    fn times(self, tuples: usize) -> usize
+        requires some { 1 ≤ tuples }
+        requires few { tuples ≤ 64 }
+        ensures value { result ≡ self.count * tuples }
+        ensures some { 1 ≤ result }
+        ensures few { result ≤ 8 * tuples }
+    {
+        self.count * tuples
+    }
 }

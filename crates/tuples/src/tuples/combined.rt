@@ -1,7 +1,8 @@
-ghost use Rattle.std.specs.Prelude.{◌≡◌, ◌+◌, ◌*◌, ◌/◌, ◌%◌, ◌<◌, ◌≤◌, true, false};
+ghost use Rattle.std.specs.Prelude.{◌≡◌, ◌+◌, ◌-◌, ◌*◌, ◌/◌, ◌%◌, ◌≤◌, true, false};
 ghost use Rattle.lasso.specs.Values.{smaller};
 ghost use Rattle.lasso.specs.declared.value.Value.TheVariants.{No};
 ghost use Rattle.problem.specs.Sorts.{suits as suits_of, outcome as outcome_of};
+ghost use Rattle.meaning.specs.Tuples.{tuples as tuples_of};
 ghost use Rattle.meaning.specs.Tables.{product_table, join_table, combined_table};
 ghost use Rattle.meaning.specs.Laws.{JoinAtAtoms, ProductAtAtoms};
 ghost use Rattle.meaning.specs.TableLaws.{TablesStand};
@@ -9,9 +10,7 @@ ghost use Rattle.tuples.specs.Tabled.{table_of, Tabled};
 
 use super::super::atoms::Atoms;
 use super::Tuples;
-use super::filled::filled;
 use super::folds::highest;
-use super::numbers::{first, last, number};
 use lasso::Value;
 use problem::{Constant, Operator};
 
@@ -24,84 +23,65 @@ impl Tuples {
         ensures join { JoinAtAtoms }
         ensures product { ProductAtAtoms }
     {
+        let operands = Operands {
+            left: self,
+            right: other,
+            atoms,
+        };
         match operator.outcome(self.arity, other.arity) {
-            Some(arity) => self.suited(operator, arity, other, atoms),
+            Some(arity) => Tuples::tabled(arity, atoms, |r| operands.combined_value(operator, r)),
             None => Tuples::constant(Constant::None, atoms),
         }
     }
+}
 
-    // Two sets of tuples combined by a sign that their arities suit, of which this arity comes.
-    fn suited(&self, operator: Operator, arity: usize, other: &Tuples, atoms: Atoms) -> Tuples
-        requires outcome { arity ≡ outcome_of operator self.now.arity other.now.arity }
-        requires some { 1 ≤ arity }
-        requires few { arity ≤ 3 }
-        ensures { Tabled atoms.count (outcome_of operator self.now.arity other.now.arity) (combined_table operator atoms.count other.now.arity (table_of self.now) (table_of other.now)) result }
-    {
-        Tuples {
-            arity,
-            values: filled(
-                atoms.tuples(arity),
-                |r| self.combined_value(operator, other, atoms, r),
-            ),
-        }
-    }
+// Two sets of tuples that are combined, and the atoms that they are of.
+#[derive(Clone, Copy)]
+struct Operands<'t> {
+    left: &'t Tuples,
+    right: &'t Tuples,
+    atoms: Atoms,
+}
 
-    // The value of a tuple that comes of two sets of tuples.
-    fn combined_value(
-        &self,
-        operator: Operator,
-        other: &Tuples,
-        atoms: Atoms,
-        tuple: usize,
-    ) -> Value
-        requires { tuple < 512 }
-        ensures { result ≡ combined_table operator atoms.count other.now.arity (table_of self.now) (table_of other.now) tuple }
+impl Operands<'_> {
+    // The value of a tuple that comes of the two.
+    fn combined_value(&self, operator: Operator, tuple: usize) -> Value
+        ensures { result ≡ combined_table operator self.now.atoms.count self.now.right.now.arity (table_of self.now.left.now) (table_of self.now.right.now) tuple }
     {
         match operator {
-            Operator::Union => self.value(tuple).greater(other.value(tuple)),
-            Operator::Difference => self.value(tuple).smaller(!other.value(tuple)),
-            Operator::Intersection => self.value(tuple).smaller(other.value(tuple)),
-            Operator::Product => product_value(self, other, atoms.tuples(other.arity), tuple),
-            Operator::Join => join_value(
-                self,
-                other,
-                atoms.count(),
-                atoms.tuples(other.arity - 1),
-                tuple,
-            ),
+            Operator::Union => self.left.value(tuple).greater(self.right.value(tuple)),
+            Operator::Difference => self.left.value(tuple).smaller(!self.right.value(tuple)),
+            Operator::Intersection => self.left.value(tuple).smaller(self.right.value(tuple)),
+            Operator::Product => self.product_value(tuple),
+            Operator::Join => self.join_value(tuple),
         }
     }
-}
 
-// The value of two tuples side by side; the second is one of so many.
-fn product_value(a: &Tuples, b: &Tuples, width: usize, tuple: usize) -> Value
-    requires { 1 ≤ width }
-    ensures { result ≡ product_table width (table_of a.now) (table_of b.now) tuple }
-{
-    a.value(tuple / width).smaller(b.value(tuple % width))
-}
+    // The value of two tuples side by side.
+    fn product_value(&self, tuple: usize) -> Value
+        ensures { result ≡ product_table (tuples_of self.now.atoms.count self.now.right.now.arity) (table_of self.now.left.now) (table_of self.now.right.now) tuple }
+    {
+        let width = self.atoms.tuples(self.right.arity);
+        let left = self.left.value(tuple / width);
+        let right = self.right.value(tuple % width);
+        left.smaller(right)
+    }
 
-// The greatest value of two tuples that meet at an atom; the rest of the second is one of so many.
-fn join_value(a: &Tuples, b: &Tuples, atoms: usize, width: usize, tuple: usize) -> Value
-    requires atoms { atoms ≤ 8 }
-    requires some { 1 ≤ width }
-    requires few { width ≤ 512 }
-    requires tuple { tuple < 512 }
-    ensures { result ≡ join_table atoms width (table_of a.now) (table_of b.now) tuple }
-{
-    highest(atoms, |atom| met_value(a, b, atoms, width, tuple, atom))
-}
+    // The greatest value of two tuples that meet at an atom.
+    fn join_value(&self, tuple: usize) -> Value
+        ensures { result ≡ join_table self.now.atoms.count (tuples_of self.now.atoms.count (self.now.right.now.arity - 1)) (table_of self.now.left.now) (table_of self.now.right.now) tuple }
+    {
+        highest(self.atoms.count(), |atom| self.met_value(tuple, atom))
+    }
 
-// The value of two tuples that meet at an atom, and come to a tuple.
-fn met_value(a: &Tuples, b: &Tuples, atoms: usize, width: usize, tuple: usize, atom: usize) -> Value
-    requires atoms { atoms ≤ 8 }
-    requires some { 1 ≤ width }
-    requires few { width ≤ 512 }
-    requires tuple { tuple < 512 }
-    requires atom { atom < atoms }
-    ensures { result ≡ smaller (table_of a.now (tuple / width * atoms + atom)) (table_of b.now (atom * width + tuple % width)) }
-{
-    let left = a.value(number(first(tuple, width), atoms, atom));
-    let right = b.value(number(atom, width, last(tuple, width)));
-    left.smaller(right)
+    // The value of two tuples that meet at an atom, and come to a tuple.
+    fn met_value(&self, tuple: usize, atom: usize) -> Value
+        ensures { let width = tuples_of self.now.atoms.count (self.now.right.now.arity - 1) in result ≡ smaller (table_of self.now.left.now (tuple / width * self.now.atoms.count + atom)) (table_of self.now.right.now (atom * width + tuple % width)) }
+    {
+        let count = self.atoms.count();
+        let width = self.atoms.tuples(self.right.arity - 1);
+        let left = self.left.value_of_two(tuple / width, count, atom);
+        let right = self.right.value_of_two(atom, width, tuple % width);
+        left.smaller(right)
+    }
 }

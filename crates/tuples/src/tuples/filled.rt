@@ -1,14 +1,37 @@
-ghost use Rattle.std.specs.Prelude.{ℕ, ◌<◌, ◌≤◌, slice_index_or};
+ghost use Rattle.std.specs.Prelude.{◌≡◌, ℕ, ◌<◌, ◌≤◌, slice_index_or};
 ghost use Rattle.lasso.specs.declared.value.Value.{Value as ValueOf};
+ghost use Rattle.meaning.specs.Tuples.{tuples as tuples_of};
+ghost use Rattle.tuples.specs.Tabled.{table_of};
 
+use super::super::atoms::Atoms;
+use super::Tuples;
 use lasso::Value;
+
+impl Tuples {
+    // The tuples of an arity, with the values of a function.
+    pub(crate) fn tabled<F: Fn(usize) -> Value>(arity: usize, atoms: Atoms, value_of: F) -> Tuples
+        requires some { 1 ≤ arity }
+        requires few { arity ≤ 3 }
+        requires callable { F.IsAlwaysCallable value_of }
+        ensures arity { result.arity ≡ arity }
+        ensures values { (r : ℕ) → r < tuples_of atoms.count arity → F.post value_of r (table_of result r) }
+    {
+        Tuples {
+            arity,
+            values: filled(atoms.tuples(arity), value_of),
+        }
+    }
+}
 
 // The values of a function below a count, and no from there on.
 pub(crate) fn filled<const N: usize, F: Fn(usize) -> Value>(count: usize, value_of: F) -> [Value; N]
     requires few { count ≤ N }
-    requires callable { (r : ℕ) → r < count → F.pre value_of r }
+    requires callable { F.IsAlwaysCallable value_of }
     ensures { (r : ℕ) (beyond : ValueOf) → r < count → F.post value_of r (slice_index_or result r beyond) }
 {
+    // By index: in a loop over `iter_mut().enumerate()` no invariant can name the array that is written, and `array::from_fn` would
+    // test each of the N places. Rows and the evaluator fill their own: one fill for all would be public, and ask its callers for a
+    // closure that may be called.
     let mut values = [Value::No; N];
     'fill: for r in 0..count {
         values[r] = value_of(r);

@@ -1,4 +1,4 @@
-ghost use Rattle.std.specs.Prelude.{◌≡◌, ◌+◌, ◌≤◌, slice_index_or};
+ghost use Rattle.std.specs.Prelude.{◌≡◌, ◌+◌, slice_index_or};
 ghost use Rattle.lasso.specs.declared.value.Value.TheVariants.{Open};
 ghost use Rattle.relations.specs.Relations.{arity_number};
 ghost use Rattle.problem.specs.Sorts.{constant_arity};
@@ -7,7 +7,6 @@ ghost use Rattle.tuples.specs.Tabled.{Tabled};
 
 use super::super::atoms::Atoms;
 use super::Tuples;
-use super::filled::filled;
 use lasso::Value;
 use problem::Constant;
 use relations::Arity;
@@ -17,45 +16,36 @@ impl Tuples {
     pub fn constant(constant: Constant, atoms: Atoms) -> Tuples
         ensures { Tabled atoms.count (constant_arity constant) (constant_table atoms.count constant) result }
     {
-        let arity = constant.arity();
-        let count = atoms.count();
-        Tuples {
-            arity,
-            values: filled(atoms.tuples(arity), |r| constant_value(constant, count, r)),
-        }
+        Tuples::tabled(
+            constant.arity(),
+            atoms,
+            |r| constant_value(constant, atoms, r),
+        )
     }
 
     // A variable that is bound to an atom.
     pub fn variable(atom: usize, atoms: Atoms) -> Tuples
         ensures { Tabled atoms.count 1 (variable_table atom) result }
     {
-        Tuples {
-            arity: 1,
-            values: filled(atoms.tuples(1), |r| variable_value(atom, r)),
-        }
+        Tuples::tabled(1, atoms, |r| variable_value(atom, r))
     }
 
     // A relation whose places in a row begin at one; open beyond the row's end.
     pub fn relation(row: &[Value], first_place: usize, arity: Arity, atoms: Atoms) -> Tuples
         ensures { Tabled atoms.count (arity_number arity) (λ r. slice_index_or row.now (first_place + r) Open) result }
     {
-        let arity = arity.number();
-        Tuples {
-            arity,
-            values: filled(atoms.tuples(arity), |r| place_value(row, first_place, r)),
-        }
+        Tuples::tabled(arity.number(), atoms, |r| place_value(row, first_place, r))
     }
 }
 
 // The value of a tuple of a constant.
-fn constant_value(constant: Constant, atoms: usize, tuple: usize) -> Value
-    requires { 1 ≤ atoms }
-    ensures { result ≡ constant_table atoms constant tuple }
+fn constant_value(constant: Constant, atoms: Atoms, tuple: usize) -> Value
+    ensures { result ≡ constant_table atoms.count constant tuple }
 {
     match constant {
         Constant::Univ => Value::Yes,
         Constant::None => Value::No,
-        Constant::Iden => Value::from(tuple / atoms == tuple % atoms),
+        Constant::Iden => Value::from(tuple / atoms.count() == tuple % atoms.count()),
     }
 }
 

@@ -1,4 +1,4 @@
-ghost use Rattle.std.specs.Prelude.{◌≡◌, ℕ, ◌<◌, ◌≤◌, slice_index_or};
+ghost use Rattle.std.specs.Prelude.{◌≡◌, ℕ, ◌+◌, ◌*◌, ◌<◌, ◌≤◌, slice_index_or};
 ghost use Rattle.lasso.specs.declared.value.Value.{Value as ValueOf};
 ghost use Rattle.tuples.specs.Tabled.{table_of};
 
@@ -21,6 +21,14 @@ impl Tuples {
         ensures { result ≡ table_of self.now tuple }
     {
         self.values.get(tuple).copied().unwrap_or(Value::No)
+    }
+
+    // The value of a tuple put together from two, the last of which is one of so many.
+    pub(crate) fn value_of_two(&self, first: usize, width: usize, last: usize) -> Value
+        ensures { result ≡ table_of self.now (first * width + last) }
+    {
+        // What saturates is beyond the last tuple, as the number itself is.
+        self.value(first.saturating_mul(width).saturating_add(last))
     }
 
     // The values of the first tuples.

@@ -1,4 +1,4 @@
-ghost use Rattle.std.specs.Prelude.{◌≡◌, ◌≢◌, ◌<◌, ◌≤◌};
+ghost use Rattle.std.specs.Prelude.{◌≡◌, ◌≢◌};
 ghost use Rattle.lasso.specs.declared.value.Value.TheVariants.{No};
 ghost use Rattle.meaning.specs.Tables.{transpose_table, round_table, closure_table, turned_table};
 ghost use Rattle.meaning.specs.Laws.{ClosureAtAtoms, TransposeAtAtoms};
@@ -6,8 +6,6 @@ ghost use Rattle.tuples.specs.Tabled.{table_of, Tabled};
 
 use super::super::atoms::Atoms;
 use super::Tuples;
-use super::filled::filled;
-use super::numbers::{first, last, number};
 use lasso::Value;
 use problem::{Constant, Turn};
 
@@ -40,21 +38,15 @@ impl Tuples {
     fn transposed(&self, atoms: Atoms) -> Tuples
         ensures { Tabled atoms.count 2 (transpose_table atoms.count (table_of self.now)) result }
     {
-        let count = atoms.count();
-        Tuples {
-            arity: 2,
-            values: filled(atoms.tuples(2), |r| self.transposed_value(count, r)),
-        }
+        Tuples::tabled(2, atoms, |r| self.transposed_value(atoms, r))
     }
 
     // The value of a pair turned round.
-    fn transposed_value(&self, atoms: usize, pair: usize) -> Value
-        requires some { 1 ≤ atoms }
-        requires few { atoms ≤ 512 }
-        requires pair { pair < 512 }
-        ensures { result ≡ transpose_table atoms (table_of self.now) pair }
+    fn transposed_value(&self, atoms: Atoms, pair: usize) -> Value
+        ensures { result ≡ transpose_table atoms.count (table_of self.now) pair }
     {
-        self.value(number(last(pair, atoms), atoms, first(pair, atoms)))
+        let count = atoms.count();
+        self.value_of_two(pair % count, count, pair / count)
     }
 
     // Chains of pairs: each round lets chains go through one more atom.
@@ -71,25 +63,18 @@ impl Tuples {
 
     // Pairs, or two pairs that meet at an atom.
     fn round(&self, middle: usize, atoms: Atoms) -> Tuples
-        requires { middle < atoms.count }
         ensures { Tabled atoms.count 2 (round_table atoms.count middle (table_of self.now)) result }
     {
-        let count = atoms.count();
-        Tuples {
-            arity: 2,
-            values: filled(atoms.tuples(2), |r| self.round_value(middle, count, r)),
-        }
+        Tuples::tabled(2, atoms, |r| self.round_value(middle, atoms, r))
     }
 
     // The value of a pair, or of two that meet at an atom.
-    fn round_value(&self, middle: usize, atoms: usize, pair: usize) -> Value
-        requires middle { middle < atoms }
-        requires few { atoms ≤ 512 }
-        requires pair { pair < 512 }
-        ensures { result ≡ round_table atoms middle (table_of self.now) pair }
+    fn round_value(&self, middle: usize, atoms: Atoms, pair: usize) -> Value
+        ensures { result ≡ round_table atoms.count middle (table_of self.now) pair }
     {
-        let left = self.value(number(first(pair, atoms), atoms, middle));
-        let right = self.value(number(middle, atoms, last(pair, atoms)));
+        let count = atoms.count();
+        let left = self.value_of_two(pair / count, count, middle);
+        let right = self.value_of_two(middle, count, pair % count);
         self.value(pair).greater(left.smaller(right))
     }
 }

@@ -10,10 +10,6 @@ use Rattle.evaluate.proofs.Spread.{member_is}
 use Rattle.evaluate.proofs.Formulas.{no_formula_is, tested_is, compared_is, quantified_is, prefixed_is, joined_is, alike, of_atoms, none_is_no_formula}
 use Rattle.evaluate.proofs.evaluator.Evaluator.+formulas.Goals as goal
 
--- the row that is kept of a node is its row
-pub formula-returns-in-Some : goal.formula-returns-in-Some
-formula-returns-in-Some t c = c.in-Some.ensures c.args.variables.now (omega arith)
-
 pub formula_of_parts-compared_row-requires-clause-alike : goal.formula_of_parts-compared_row-requires-clause-alike
 formula_of_parts-compared_row-requires-clause-alike t c =
     alike c.args.self.now.setting.problem.now c.args.node c.requires c.in-Compared.comparison c.in-Compared.left c.in-Compared.right c.in-Compared.ensures

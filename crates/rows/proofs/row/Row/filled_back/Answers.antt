@@ -1,12 +1,9 @@
-use Rattle.std.proofs.Common.{◌≡◌, ℕ, ◌-◌, refl, sym, arith, length-set}
+use Rattle.std.proofs.Common.{◌≡◌, ℕ, ◌-◌, arith, length-set}
 use Rattle.lasso.specs.declared.value.Value.{Value}
 use Rattle.meaning.specs.Rows.{back}
 use Rattle.rows.proofs.Filled.{row_down}
-use Rattle.rows.proofs.Steps.{back_more, back_none}
+use Rattle.rows.proofs.Steps.{back_more}
 use Rattle.rows.proofs.row.Row.filled_back.Goals as goal
-
-pub fill-init : goal.fill-init
-fill-init g c = (refl, λ f h. (sym (back_none f c.args.seed c.args.end), λ m k l. absurd (omega arith)))
 
 pub fill-preserved : goal.fill-preserved
 fill-preserved g c = (
@@ -21,6 +18,3 @@ fill-preserved g c = (
       let e : r ≡ back f c.args.seed (w - (i - 1)) (i - 1) = cc in
       (e, row_down (λ m. back f c.args.seed (w - m) m) c.fill.values w i r (omega arith) (omega arith) old.1 e),
 )
-
-pub returns : goal.returns
-returns g c f h m l = (c.fill.invariant.1 f h).1 m (omega arith) l

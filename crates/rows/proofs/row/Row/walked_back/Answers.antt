@@ -1,10 +1,7 @@
-use Rattle.std.proofs.Common.{◌≡◌, ℕ, ◌-◌, sym, ◌∙◌, subst, ap, arith}
+use Rattle.std.proofs.Common.{◌≡◌, ℕ, ◌-◌, ◌∙◌, subst, ap, arith}
 use Rattle.meaning.specs.Rows.{back, round}
-use Rattle.rows.proofs.Steps.{back_more, back_none, round_is}
+use Rattle.rows.proofs.Steps.{back_more, round_is}
 use Rattle.rows.proofs.row.Row.walked_back.Goals as goal
-
-pub round-init : goal.round-init
-round-init g c = (omega arith, λ f h. sym (back_none f c.args.seed c.instants-end.result))
 
 pub round-preserved : goal.round-preserved
 round-preserved g c = (

@@ -1,10 +1,10 @@
-use Rattle.std.proofs.Common.{rules, arith}
-use Rattle.tuples.proofs.Counts.{within}
-use Rattle.lasso.specs.declared.value.Value.TheVariants.{No}
+use Rattle.std.proofs.Common.{ℕ, ◌<◌, sym, subst, ◌∙◌, rules}
+use Rattle.meaning.specs.Tuples.{tuples}
 use Rattle.tuples.proofs.tuples.Tuples.relation.Goals as goal
 
 pub returns : goal.returns
-returns c = (
-  c.number-arity.ensures,
-  λ r l. let h = c.filled.ensures r No (within c.args.atoms.count _ _ _ r c.number-arity.ensures (omega arith) c.tuples.ensures.value l) in search rules,
-)
+returns c =
+    let n = c.args.atoms.count in (
+      c.tabled.ensures.arity ∙ c.number.ensures,
+      λ r l. let h = c.tabled.ensures.values r (subst (λ (k : ℕ). r < tuples n k) (sym c.number.ensures) l) in search rules,
+    )

@@ -1,6 +1,5 @@
-use Rattle.std.proofs.Common.{rules, arith}
-use Rattle.lasso.specs.declared.value.Value.TheVariants.{No}
+use Rattle.std.proofs.Common.{rules}
 use Rattle.tuples.proofs.tuples.Tuples.transposed.Goals as goal
 
 pub returns : goal.returns
-returns c = (search rules, λ r l. let h = c.filled.ensures r No (omega arith) in search rules)
+returns c = (c.tabled.ensures.arity, λ r l. let h = c.tabled.ensures.values r l in search rules)

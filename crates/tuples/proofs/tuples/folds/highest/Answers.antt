@@ -1,13 +1,15 @@
-use Rattle.std.proofs.Common.{sym}
-use Rattle.tuples.proofs.Folds.{highest_none, highest_more}
+use Rattle.std.proofs.Common.{ℕ, refl, ◌∙◌, rules, arith}
+use Rattle.std.proofs.lemmas.Iterator.{YieldsList-from_range}
+use Rattle.std.proofs.lemmas.Iterator.Consumers.{fold_from_yields_List}
+use Rattle.lasso.specs.declared.value.Value.{Value}
+use Rattle.lasso.specs.declared.value.Value.TheVariants.{No}
+use Rattle.lasso.specs.Values.{greater}
+use Rattle.meaning.specs.Tables.{highest}
+use Rattle.tuples.proofs.Folds.{highest_fold}
 use Rattle.tuples.proofs.tuples.folds.highest.Goals as goal
 
-pub best-init : goal.best-init
-best-init g c f h = sym (highest_none f)
-
-pub best-preserved : goal.best-preserved
-best-preserved g c f h =
-    let old = c.best.invariant f h in
-    let new = h c.best.r c.value_of.result c.value_of.ensures in
-    let more = highest_more c.best.r f in
-    cc
+pub returns : goal.returns
+unfolding highest
+returns g c f h =
+    fold_from_yields_List _ (λ (v : Value) (r : ℕ). greater v (f r)) No _ c.fold.ensures.ran (YieldsList-from_range 0 c.args.count c.args.count refl (omega arith)) (λ a x b q k. search rules)
+    ∙ highest_fold f 0 c.args.count c.args.count (omega arith)

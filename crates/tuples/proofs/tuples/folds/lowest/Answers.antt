@@ -1,13 +1,15 @@
-use Rattle.std.proofs.Common.{sym}
-use Rattle.tuples.proofs.Folds.{lowest_none, lowest_more}
+use Rattle.std.proofs.Common.{ℕ, refl, ◌∙◌, rules, arith}
+use Rattle.std.proofs.lemmas.Iterator.{YieldsList-from_range}
+use Rattle.std.proofs.lemmas.Iterator.Consumers.{fold_from_yields_List}
+use Rattle.lasso.specs.declared.value.Value.{Value}
+use Rattle.lasso.specs.declared.value.Value.TheVariants.{Yes}
+use Rattle.lasso.specs.Values.{smaller}
+use Rattle.meaning.specs.Tables.{lowest}
+use Rattle.tuples.proofs.Folds.{lowest_fold}
 use Rattle.tuples.proofs.tuples.folds.lowest.Goals as goal
 
-pub worst-init : goal.worst-init
-worst-init g c f h = sym (lowest_none f)
-
-pub worst-preserved : goal.worst-preserved
-worst-preserved g c f h =
-    let old = c.worst.invariant f h in
-    let new = h c.worst.r c.value_of.result c.value_of.ensures in
-    let more = lowest_more c.worst.r f in
-    cc
+pub returns : goal.returns
+unfolding lowest
+returns g c f h =
+    fold_from_yields_List _ (λ (v : Value) (r : ℕ). smaller v (f r)) Yes _ c.fold.ensures.ran (YieldsList-from_range 0 c.args.count c.args.count refl (omega arith)) (λ a x b q k. search rules)
+    ∙ lowest_fold f 0 c.args.count c.args.count (omega arith)

@@ -1,7 +1,0 @@
-use Rattle.std.proofs.Common.{rules}
-use Rattle.lasso.specs.Values.{greater}
-use Rattle.meaning.specs.Tables.{table_at}
-use Rattle.rows.proofs.row.Row.eventually.Goals as goal
-
-pub returns : goal.returns
-returns c = c.walked_back.ensures (λ j v. greater (table_at c.args.self.now.values j) v) (λ j v r h. search rules)
