@@ -26,9 +26,6 @@ pub record Scanned (bs : List ℕ) (n from left low at p : ℕ) (v w : Value) : 
   pub says : w ≡ latest p v marks
 
 module _ (bs : List ℕ) (n from p : ℕ) (v : Value) where
-  pub scan_first : (c : Number) → within bs from 0 n ≡ Ok c → Scanned bs n from c.value 0 c.next p v v
-  scan_first c e = record { marks = []; same = list_got place_of bs n from c e; says = refl }
-
   pub scan_more : (left low at next : ℕ) (w : Value) (m : Mark) → 0 < left → Scanned bs n from left low at p v w → mark_at bs at low n ≡ Ok (read m next)
       → Scanned bs n from (left - 1) (m.place + 1) next p v (cond (eqb m.place p) m.value w)
   scan_more left low at next w m h s e =
@@ -42,6 +39,3 @@ module _ (bs : List ℕ) (n from p : ℕ) (v : Value) where
 
   pub scan_wrong : (left low at : ℕ) (w : Value) (f : Fault) → 0 < left → Scanned bs n from left low at p v w → entry place_of bs at low n ≡ Err f → list place_of bs n from ≡ Err f
   scan_wrong left low at w f h s e = s.same ∙ entries_err place_of bs n left low at s.marks f h e
-
-  pub scan_all : (left low at : ℕ) (w : Value) → left ≡ 0 → Scanned bs n from left low at p v w → after_marks p v (list place_of bs n from) ≡ Ok (read w at)
-  scan_all left low at w h s = ap (after_marks p v) (s.same ∙ entries_done place_of bs n left low at s.marks h) ∙ ap (λ z. Ok (read z at)) (sym s.says)
