@@ -2,14 +2,13 @@
 use Rattle.std.proofs.Common.{◌≡◌, ℕ, ◌+◌, ◌-◌, ◌<◌, cond, eqb, List, [], ◌∷◌, ◌++◌, Ok, Err, sym, refl, ap, ◌∙◌, subst}
 use Rattle.faults.specs.declared.Fault.{Fault}
 use Rattle.lasso.specs.declared.value.Value.{Value}
-use Rattle.numbers.specs.Numbers.{Number, within}
 use Rattle.numbers.specs.Lists.{Read, read, entry, entries, list}
-use Rattle.numbers.proofs.Lists.{entries_got, entries_err, entries_done, list_got}
+use Rattle.numbers.proofs.Lists.{entries_got, entries_err}
 use Rattle.logs.specs.Logs.{place_of}
 use Rattle.logs.specs.Meanings.{mark, latest, latest_of}
 use Rattle.logs.specs.declared.marks.Mark.{Mark}
 use Rattle.numbers.proofs.ListsSound.{ok_inj, then_inv}
-use Rattle.logs.specs.Told.{mark_in, mark_at, after_marks}
+use Rattle.logs.specs.Told.{mark_in, mark_at}
 
 latest_push : (p : ℕ) (v : Value) (ms : List ℕ) (m : ℕ) → latest p v (ms ++ m ∷ []) ≡ mark p (latest p v ms) m
 latest_push p v [] m = refl
