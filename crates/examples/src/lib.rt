@@ -8,7 +8,7 @@ mod sources;
 mod tests {
     use faults::Fault;
     use lasso::{Instant, Shape, State};
-    use numbers::{read_number, write_number};
+    use numbers::{Reader, write_number};
     use record::{read_record, write_record};
     use std::process::Abort;
     use std::test::Fail;
@@ -47,9 +47,11 @@ mod tests {
             Err(_) => return Err(Fail::new("no room")),
         }
         assert_eq!(rt; buffer, [0xac, 2, 9, 9]);
-        match read_number(&buffer, 0) {
+        let mut reader = Reader::new(&buffer);
+        match reader.number() {
             Ok(number) => {
-                assert_eq!(rt; number.value, 300);
+                assert_eq!(rt; number, 300);
+                assert_eq!(rt; reader.position(), 2);
                 Ok(())
             },
             Err(_) => Err(Fail::new("refused")),

@@ -2,14 +2,13 @@
 use Rattle.std.proofs.Common.{◌≡◌, ℕ, ◌+◌, ◌-◌, ◌<◌, cond, eqb, List, [], ◌∷◌, ◌++◌, Ok, Err, sym, refl, ap, ◌∙◌, subst}
 use Rattle.faults.specs.declared.Fault.{Fault}
 use Rattle.lasso.specs.declared.value.Value.{Value}
-use Rattle.numbers.specs.Numbers.{Number, within}
 use Rattle.numbers.specs.Lists.{Read, read, entry, entries, list}
-use Rattle.numbers.proofs.Lists.{entries_got, entries_err, entries_done, list_got}
+use Rattle.numbers.proofs.Lists.{entries_got, entries_err}
 use Rattle.logs.specs.Logs.{place_of}
 use Rattle.logs.specs.Meanings.{mark, latest, latest_of}
 use Rattle.logs.specs.declared.marks.Mark.{Mark}
 use Rattle.numbers.proofs.ListsSound.{ok_inj, then_inv}
-use Rattle.logs.specs.Told.{mark_in, mark_at, after_marks}
+use Rattle.logs.specs.Told.{mark_in, mark_at}
 
 latest_push : (p : ℕ) (v : Value) (ms : List ℕ) (m : ℕ) → latest p v (ms ++ m ∷ []) ≡ mark p (latest p v ms) m
 latest_push p v [] m = refl
@@ -26,9 +25,6 @@ pub record Scanned (bs : List ℕ) (n from left low at p : ℕ) (v w : Value) : 
   pub says : w ≡ latest p v marks
 
 module _ (bs : List ℕ) (n from p : ℕ) (v : Value) where
-  pub scan_first : (c : Number) → within bs from 0 n ≡ Ok c → Scanned bs n from c.value 0 c.next p v v
-  scan_first c e = record { marks = []; same = list_got place_of bs n from c e; says = refl }
-
   pub scan_more : (left low at next : ℕ) (w : Value) (m : Mark) → 0 < left → Scanned bs n from left low at p v w → mark_at bs at low n ≡ Ok (read m next)
       → Scanned bs n from (left - 1) (m.place + 1) next p v (cond (eqb m.place p) m.value w)
   scan_more left low at next w m h s e =
@@ -42,6 +38,3 @@ module _ (bs : List ℕ) (n from p : ℕ) (v : Value) where
 
   pub scan_wrong : (left low at : ℕ) (w : Value) (f : Fault) → 0 < left → Scanned bs n from left low at p v w → entry place_of bs at low n ≡ Err f → list place_of bs n from ≡ Err f
   scan_wrong left low at w f h s e = s.same ∙ entries_err place_of bs n left low at s.marks f h e
-
-  pub scan_all : (left low at : ℕ) (w : Value) → left ≡ 0 → Scanned bs n from left low at p v w → after_marks p v (list place_of bs n from) ≡ Ok (read w at)
-  scan_all left low at w h s = ap (after_marks p v) (s.same ∙ entries_done place_of bs n left low at s.marks h) ∙ ap (λ z. Ok (read z at)) (sym s.says)

@@ -33,10 +33,6 @@ module _ (f : ℕ → ℕ) (bs : List ℕ) (n : ℕ) where
   lists_err zero at rows x h e = absurd (omega arith)
   lists_err (suc k) at rows x h e = ap (λ r. and_then r (λ v. lists f bs n k v.next (rows ++ v.got ∷ []))) e
 
-  pub lists_done : (k at : ℕ) (rows : List (List ℕ)) → k ≡ 0 → lists f bs n k at rows ≡ Ok (read rows at)
-  lists_done zero at rows e = refl
-  lists_done (suc k) at rows e = absurd (omega arith)
-
 module _ (f : ℕ → ℕ) where
   pub ascends_low : (a b n : ℕ) (rs : List ℕ) → a ≤ b → Ascends f b n rs → Ascends f a n rs
   ascends_low a b n [] h s = tt

@@ -16,21 +16,15 @@ pub fn number_len(n: u16) -> usize
 }
 
 // Writes a number at the start of the buffer, and says how many bytes it has; the bytes beyond stay.
+// What is written reads back.
+#[tactic(auto, using(crate::proofs::Laws::reads_back))]
 pub fn write_number(n: u16, buffer: &mut [u8]) -> Result<usize, Fault>
     ensures { MatchResult result (λ len. Wrote n buffer.old buffer.new len) (λ f. NoRoom n buffer.old buffer.new f) }
 {
     if buffer.len() < number_len(n) {
         return Err(Fault::BufferTooShort);
     }
-    Ok(put_number(n, buffer))
-}
-
-// What is written reads back.
-fn put_number(n: u16, buffer: &mut [u8]) -> usize
-    requires { length (encode n) ≤ length buffer.old }
-    ensures { Wrote n buffer.old buffer.new result }
-{
-    put_groups(n, buffer)
+    Ok(put_groups(n, buffer))
 }
 
 // Writes group by group, lowest first.

@@ -14,7 +14,7 @@ use Rattle.numbers.specs.Numbers.{over, Bytes}
 use Rattle.numbers.proofs.ListsSound.{never, ok_inj}
 use Rattle.record.specs.declared.read.Lasso.{Lasso}
 use Rattle.record.specs.Records.{Said, helds, rows_of, said, record_of, among, holds_by}
-use Rattle.record.specs.Reading.{parse, ReadsAs, Accepted, Refused}
+use Rattle.record.specs.Reading.{parse, ReadsAs, Accepted, Refused, Wrote}
 use Rattle.record.specs.Lassos.{saying_of, Fits}
 use Rattle.record.proofs.Rows.{among_helds}
 use Rattle.record.proofs.Sound.{sound}
@@ -67,10 +67,10 @@ accepted bs t bytes e =
 pub said_like : (t : Trace) (l : Lasso) → t.places ≡ l.places → t.shape ≡ l.shape → t.held ≡ l.held → said t ≡ saying_of l
 said_like t l n s h = λ i. record { places = n i; states = (s i).states; start = (s i).loop_start; rows = rows_of (s i).states (h i) }
 
-pub written_back : (t : Trace) (old new : List ℕ) (len : ℕ) → len ≡ length (record_of (said t)) → new ≡ over (record_of (said t)) old → ReadsAs (take len new) t
-written_back t old new len e f =
+pub written : (t : Trace) (old new : List ℕ) (len : ℕ) → len ≡ length (record_of (said t)) → new ≡ over (record_of (said t)) old → Wrote t old new len
+written t old new len e f =
     let r : take len new ≡ record_of (said t) = ap (take len) f ∙ take_at (record_of (said t)) _ len (sym e) in
-    reads_as (take len new) t (ap parse r ∙ complete t)
+    record { length_is = e; bytes = f; back = reads_as (take len new) t (ap parse r ∙ complete t) }
 
 -- ---- what is refused
 pub refused_reading : (bs : List ℕ) (f : Fault) → Bytes bs → parse bs ≡ Err f → Refused bs f

@@ -1,8 +1,8 @@
 -- The held places of a row, and the bytes of a state.
-use Rattle.std.proofs.Common.{◌≡◌, ℕ, zero, suc, ◌+◌, ◌*◌, ◌<◌, ◌≤◌, Bool, true, false, cond, ◌||◌, List, [], ◌∷◌, ◌++◌, length, get_or, take, drop, replicate, sym, refl, ap, ◌∙◌, subst, append_assoc, append-nil, add-zero, arith, length-append, take-append-drop, length-take}
+use Rattle.std.proofs.Common.{◌≡◌, ℕ, zero, suc, ◌+◌, ◌*◌, ◌<◌, ◌≤◌, Bool, true, false, cond, ◌||◌, List, [], ◌∷◌, ◌++◌, length, get_or, take, drop, replicate, sym, refl, ap, ◌∙◌, append_assoc, append-nil, add-zero, arith, length-append, take-append-drop, length-take}
 use Rattle.std.specs.List.{flat_map, count_by}
 use Rattle.std.proofs.lemmas.List.Sums.{sum_by-cons}
-use Rattle.std.proofs.lemmas.List.{take_more, take_all, get_or-drop}
+use Rattle.std.proofs.lemmas.List.{take_more, get_or-drop}
 use Rattle.std.proofs.lemmas.Bool.{eq-eqb, ne_eqb, false≢true}
 use Rattle.std.proofs.lemmas.Bool.Decides.{nat_tests}
 use Rattle.trace.specs.Tables.{Empty}
@@ -71,9 +71,6 @@ front_le row p =
     let f : flat_map encode (helds 0 row) ≡ flat_map encode (helds 0 (take p row)) ++ flat_map encode (helds (0 + length (take p row)) (drop p row)) = ap (flat_map encode) e ∙ joined_append encode (helds 0 (take p row)) (helds (0 + length (take p row)) (drop p row)) in
     omega (arith, simp length-append at (ap length f), length-append (encode (length (helds 0 row))) (flat_map encode (helds 0 row)), length-append (encode (length (helds 0 row))) (flat_map encode (helds 0 (take p row))))
 
-pub front_all : (row : List Bool) (p : ℕ) → length row ≤ p → front row p ≡ state_of row
-front_all row p h = ap (λ z. encode (length (helds 0 row)) ++ flat_map encode (helds 0 z)) (take_all p row h)
-
 pub length_encode : (n : ℕ) → length (encode n) ≤ 3
 length_encode n = grind (arith, nat_tests)
 
@@ -89,19 +86,6 @@ pub helds_ascend : (i : ℕ) (row : List Bool) → Ascends itself i (i + length 
 helds_ascend i [] = tt
 helds_ascend i (true ∷ row) = let e : (i + 1) + length row ≤ i + suc (length row) = omega arith in (omega arith, omega arith, ascends_high itself (i + 1) ((i + 1) + length row) (i + suc (length row)) (helds (i + 1) row) e (helds_ascend (i + 1) row))
 helds_ascend i (false ∷ row) = let e : (i + 1) + length row ≤ i + suc (length row) = omega arith in ascends_low itself i (i + 1) (i + suc (length row)) (helds (i + 1) row) (omega arith) (ascends_high itself (i + 1) ((i + 1) + length row) (i + suc (length row)) (helds (i + 1) row) e (helds_ascend (i + 1) row))
-
-too_low : (i n : ℕ) (zs rs : List ℕ) → Ascends itself (i + 1) n rs → i ∷ zs ≡ rs → ⊥
-too_low i n zs rs a e = let b : Ascends itself (i + 1) n (i ∷ zs) = subst (Ascends itself (i + 1) n) (sym e) a in omega (arith, b.0)
-
--- the held places tell rows of one length apart
-pub helds_inj : (i : ℕ) (xs ys : List Bool) → length xs ≡ length ys → helds i xs ≡ helds i ys → xs ≡ ys
-helds_inj i [] [] l e = refl
-helds_inj i [] (y ∷ ys) l e = absurd (omega arith)
-helds_inj i (x ∷ xs) [] l e = absurd (omega arith)
-helds_inj i (true ∷ xs) (true ∷ ys) l e = let f : helds (i + 1) xs ≡ helds (i + 1) ys = cc in ap (λ z. true ∷ z) (helds_inj (i + 1) xs ys (omega arith) f)
-helds_inj i (true ∷ xs) (false ∷ ys) l e = absurd (too_low i ((i + 1) + length ys) (helds (i + 1) xs) (helds (i + 1) ys) (helds_ascend (i + 1) ys) e)
-helds_inj i (false ∷ xs) (true ∷ ys) l e = absurd (too_low i ((i + 1) + length xs) (helds (i + 1) ys) (helds (i + 1) xs) (helds_ascend (i + 1) xs) (sym e))
-helds_inj i (false ∷ xs) (false ∷ ys) l e = ap (λ z. false ∷ z) (helds_inj (i + 1) xs ys (omega arith) e)
 
 -- a place below the row's beginning is not among them
 not_among : (p low n : ℕ) (rs : List ℕ) → p < low → Ascends itself low n rs → among p rs ≡ false

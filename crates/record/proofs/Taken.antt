@@ -4,9 +4,9 @@ use Rattle.std.proofs.lemmas.List.{set_split, drop-drop, drop-replicate, drop-se
 use Rattle.std.proofs.lemmas.Bool.{cases_eq, cases_lt}
 use Rattle.trace.specs.Tables.{holds, Empty, NoneOutside}
 use Rattle.faults.specs.declared.Fault.{Fault}
-use Rattle.numbers.specs.Numbers.{Number, within}
+use Rattle.numbers.specs.Numbers.{Number}
 use Rattle.numbers.specs.Lists.{read, entry, entries, list, lists}
-use Rattle.numbers.proofs.Lists.{entries_got, entries_err, entries_done, list_got, lists_got, lists_err}
+use Rattle.numbers.proofs.Lists.{entries_got, entries_err, lists_got, lists_err}
 use Rattle.record.specs.Records.{itself, helds, rows_of}
 use Rattle.record.proofs.Rows.{helds_append, helds_blank}
 
@@ -43,13 +43,6 @@ pub record Filling (bs : List ℕ) (n from left low at : ℕ) (row : List Bool) 
   pub wide : length row ≡ 768
 
 module _ (bs : List ℕ) (n from : ℕ) where
-  pub fill_first : (c : Number) (row : List Bool) → row ≡ replicate 768 false → within bs from 0 n ≡ Ok c → Filling bs n from c.value 0 c.next row
-  fill_first c row b e =
-      let wide : length row ≡ 768 = ap length b ∙ length-replicate 768 false in
-      let none : helds 0 row ≡ [] = ap (helds 0) b ∙ helds_blank 0 768 in
-      let width : 768 ≡ length row - 0 = omega arith in
-      record { same = list_got itself bs n from c e ∙ ap (entries itself bs n c.value 0 c.next) (sym none); blank = b ∙ ap (λ n. replicate n false) width; below = omega arith; wide = wide }
-
   pub fill_more : (left low at : ℕ) (row : List Bool) (p : Number) → n ≤ 768 → 0 < left → Filling bs n from left low at row → entry itself bs at low n ≡ Ok p → low ≤ p.value → p.value < n
       → Filling bs n from (left - 1) (p.value + 1) p.next (set row p.value true)
   fill_more left low at row p few h s e lo hi = record {
@@ -62,9 +55,6 @@ module _ (bs : List ℕ) (n from : ℕ) where
 
   pub fill_wrong : (left low at : ℕ) (row : List Bool) (f : Fault) → 0 < left → Filling bs n from left low at row → entry itself bs at low n ≡ Err f → list itself bs n from ≡ Err f
   fill_wrong left low at row f h s e = s.same ∙ entries_err itself bs n left low at (helds 0 row) f h e
-
-  pub fill_all : (left low at : ℕ) (row : List Bool) → left ≡ 0 → Filling bs n from left low at row → list itself bs n from ≡ Ok (read (helds 0 row) at)
-  fill_all left low at row h s = s.same ∙ entries_done itself bs n left low at (helds 0 row) h
 
   pub fill_empty : (left low at : ℕ) (row : List Bool) → Filling bs n from left low at row → Empty row n
   fill_empty left low at row s p h =

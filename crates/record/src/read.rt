@@ -46,6 +46,7 @@ pub fn read_record(bytes: &[u8], trace: &mut Trace) -> Result<(), Fault>
 }
 
 // The trace of a lasso that was read; none where fewer states would do.
+#[tactic(auto, using(crate::proofs::Exact::decided))]
 fn read_trace(bytes: &[u8]) -> Result<Trace, Fault>
     ensures { MatchResult result (λ t. Accepted bytes.now t) (λ f. Refused bytes.now f) }
 {
@@ -89,6 +90,7 @@ fn read_header(reader: &mut Reader<'_>) -> Result<Header, Fault>
 }
 
 // Reads the states into the table, in which nothing is held yet.
+#[tactic(auto, using(crate::proofs::Taken::none_after))]
 fn read_states(reader: &mut Reader<'_>, header: Header, held: &mut Table) -> Result<(), Fault>
     requires places { header.places ≤ 768 }
     requires states { header.shape.states ≤ 8 }

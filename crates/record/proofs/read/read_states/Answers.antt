@@ -2,7 +2,7 @@ use Rattle.std.proofs.Common.{sym, ap, ◌∙◌, arith}
 use Rattle.std.proofs.lemmas.Result.{err_from_is_err_and}
 use Rattle.numbers.specs.Lists.{list}
 use Rattle.record.specs.Records.{itself}
-use Rattle.record.proofs.Taken.{read_row, read_wrong, none_after}
+use Rattle.record.proofs.Taken.{read_row, read_wrong}
 use Rattle.record.proofs.read.read_states.Goals as goal
 
 pub returns-in_err-read_state-clause-cases : goal.returns-in_err-read_state-clause-cases
@@ -22,8 +22,3 @@ loop-row-preserved c =
       read_row c.args.reader.now.bytes.now h.places h.shape.states c.args.reader.now.at c.loop-row.row-index c.loop-row.reader.at c.loop-row.row-items c.read_state.new.row c.read_state.new.reader.at (omega arith) i.1 e
           c.in_ok-read_state.ensures.inside,
     )
-
-pub returns-clause-inside : goal.returns-clause-inside
-returns-clause-inside c =
-    let h = c.args.header in
-    none_after c.args.reader.now.bytes.now h.places h.shape.states c.args.reader.now.at c.loop-row.row-index c.loop-row.reader.at _ c.loop-row.row-items c.args.held.now (omega arith) c.loop-row.invariant.1 c.requires.nothing

@@ -1,8 +1,6 @@
-use Rattle.std.proofs.Common.{◌≡◌, ◌+◌, ◌-◌, ◌<◌, take, is_ok, sym, ap, ◌∙◌, subst, arith}
-use Rattle.lasso.specs.declared.value.Value.TheVariants.{Open}
+use Rattle.std.proofs.Common.{◌≡◌, ◌+◌, ◌-◌, ◌<◌, is_ok, sym, ap, ◌∙◌, subst, arith}
 use Rattle.numbers.specs.Lists.{list}
 use Rattle.logs.specs.Logs.{place_of, said}
-use Rattle.logs.specs.Meanings.{latest_of}
 use Rattle.logs.specs.Told.{after_marks}
 use Rattle.logs.proofs.Parses.{Seen, seen_list, seen_more}
 use Rattle.logs.proofs.log.calls.latest_at.Goals as goal
@@ -29,9 +27,3 @@ loop-done-preserved c =
     let e = ap (λ b. after_marks c.args.place v (list place_of b n c.loop-done.reader.at)) (sym j.0) ∙ c.sure_marks-value.ensures.value in
     let m = seen_more bs n ((said bs).instants - i) c.loop-done.reader.at i c.args.place v (said bs).marks _ left j.1 j.2 e in
     (c.sure_marks-value.ensures.same ∙ j.0, subst (λ k. Seen bs n k next (i + 1) (said bs).marks) less m.0, m.1)
-
-pub returns : goal.returns
-returns c =
-    let bs = c.args.reader.now.bytes.now in
-    let all : c.loop-done._done ≡ c.args.instant + 1 = omega arith in
-    c.loop-done.invariant.2 ∙ ap (λ k. latest_of c.args.place Open (take k (said bs).marks)) all
