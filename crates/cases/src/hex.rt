@@ -8,12 +8,7 @@ fn digit(b: u8) -> Option<u8>
     ensures value { result ≡ digit_of b }
     ensures small { IfSome result (λ d. d < 16) }
 {
-    match b {
-        b'0'..=b'9' => Some(b - b'0'),
-        b'a'..=b'f' => Some(b - b'a' + 10),
-        b'A'..=b'F' => Some(b - b'A' + 10),
-        _ => None,
-    }
+    Some(char::from(b).to_digit(16)? as u8)
 }
 
 // The byte that two hexadecimal digits are.

@@ -96,8 +96,5 @@ fn mark<W: fmt::Write>(text: &[u8], place: usize, f: &mut fmt::Formatter<W>) -> 
         bytes: &text[at.start..at.end],
     };
     writeln!(f, "{shown}")?;
-    for _ in 1..column {
-        f.write_char(' ')?;
-    }
-    writeln!(f, "^")
+    writeln!(f, "{:>column$}", '^')
 }

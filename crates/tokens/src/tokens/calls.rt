@@ -133,10 +133,7 @@ impl<'a> Tokens<'a> {
         ensures value { result ≡ bytes_left self.now }
         ensures bound { length (ahead self.now) ≤ result }
     {
-        match self.next {
-            Some(_) => self.rest.len() + 1,
-            None => 0,
-        }
+        self.next.map_or(0, |_| self.rest.len() + 1)
     }
 }
 
