@@ -65,10 +65,9 @@ impl Kind {
     pub(crate) fn admits(self, sort: Sort) -> bool
         ensures { result ≡ of_kind self sort }
     {
-        match (self, sort) {
-            (Kind::Formula, Sort::Formula { .. }) | (Kind::Expression, Sort::Expression { .. }) =>
-                true,
-            _ => false,
-        }
+        matches!(
+            (self, sort),
+            (Kind::Formula, Sort::Formula { .. }) | (Kind::Expression, Sort::Expression { .. })
+        )
     }
 }

@@ -30,7 +30,7 @@ pub struct Atom {
     name: Name,
 }
 
-// A relation; of each tuple, whether it is always in, free, or never in.
+// A relation; of each tuple, whether it is always in, free, or never in: an array and no `Vec`, since to copy it asks for no memory.
 #[derive(Clone, Copy)]
 pub struct Relation {
     name: Name,

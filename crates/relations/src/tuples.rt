@@ -3,7 +3,7 @@ ghost use Rattle.std.specs.Prelude.{◌≡◌, true, false, length, replicate, s
 // The most tuples of a relation: pairs of eight atoms.
 pub const MOST_TUPLES: usize = 64;
 
-// A set of tuples, by their numbers.
+// A set of tuples, by their numbers. An array and no `Vec`: a tuple is noted without asking for memory.
 #[derive(Clone, Copy)]
 pub struct TupleSet {
     held: [bool; 64],

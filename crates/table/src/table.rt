@@ -9,7 +9,7 @@ mod calls;
 // The most states of a table.
 pub const MOST_STATES: usize = 17;
 
-// The value of each place in each state of a lasso; open beyond the counts.
+// The value of each place in each state of a lasso; open beyond the counts. Arrays and no `Vec`: to evaluate may not run out of memory.
 #[derive(Clone, Copy)]
 pub struct Table {
     places: usize,

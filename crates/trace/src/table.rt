@@ -7,7 +7,7 @@ pub const MOST_PLACES: usize = 768;
 // The most states of a trace.
 pub const MOST_STATES: usize = 8;
 
-// For each state, which places are held.
+// For each state, which places are held. Arrays and no `Vec`: to read and to write a record may not run out of memory.
 pub type Table = [[bool; MOST_PLACES]; MOST_STATES];
 
 // The table in which nothing is held.
