@@ -49,7 +49,8 @@ fn read_mark(reader: &mut Reader<'_>, low: usize, places: usize) -> Result<Mark,
     })
 }
 
-// Reads the marks of an instant: what they leave of a place that had a value.
+// Reads the marks of an instant: what they leave of a place that had a value. The record's reader has a loop like this one:
+// a shared one would be public and require of its callers a closure that may be called, and a public function requires nothing.
 pub(crate) fn read_marks(
     reader: &mut Reader<'_>,
     places: usize,

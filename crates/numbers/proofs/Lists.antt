@@ -1,7 +1,7 @@
 -- Counted lists: what each step of reading one makes of the rest, and lists that ascend within wider limits.
-use Rattle.std.proofs.Common.{◌≡◌, ℕ, zero, suc, ◌+◌, ◌-◌, ◌<◌, ◌≤◌, List, [], ◌∷◌, ◌++◌, Ok, Err, refl, ap, ◌∙◌, arith}
+use Rattle.std.proofs.Common.{◌≡◌, ℕ, zero, suc, ◌+◌, ◌-◌, ◌<◌, ◌≤◌, List, [], ◌∷◌, ◌++◌, Ok, Err, ap, ◌∙◌, arith}
 use Rattle.faults.specs.declared.Fault.{Fault}
-use Rattle.numbers.specs.Numbers.{Number, and_then, within}
+use Rattle.numbers.specs.Numbers.{Number, and_then}
 use Rattle.numbers.specs.Lists.{read, entry, entries, list, lists, Ascends}
 
 module _ (f : ℕ → ℕ) (bs : List ℕ) (n : ℕ) where
@@ -15,13 +15,6 @@ module _ (f : ℕ → ℕ) (bs : List ℕ) (n : ℕ) where
   pub entries_err : (left low at : ℕ) (ps : List ℕ) (x : Fault) → 0 < left → entry f bs at low n ≡ Err x → entries f bs n left low at ps ≡ Err x
   entries_err zero low at ps x h e = absurd (omega arith)
   entries_err (suc c) low at ps x h e = ap (λ r. and_then r (λ v. entries f bs n c (f v.value + 1) v.next (ps ++ v.value ∷ []))) e
-
-  pub entries_done : (left low at : ℕ) (ps : List ℕ) → left ≡ 0 → entries f bs n left low at ps ≡ Ok (read ps at)
-  entries_done zero low at ps e = refl
-  entries_done (suc c) low at ps e = absurd (omega arith)
-
-  pub list_got : (at : ℕ) (v : Number) → within bs at 0 n ≡ Ok v → list f bs n at ≡ entries f bs n v.value 0 v.next []
-  list_got at v e = ap (λ r. and_then r (λ v. entries f bs n v.value 0 v.next [])) e
 
   pub lists_got : (k at : ℕ) (rows : List (List ℕ)) (ps : List ℕ) (next : ℕ) → 0 < k → list f bs n at ≡ Ok (read ps next) → lists f bs n k at rows ≡ lists f bs n (k - 1) next (rows ++ ps ∷ [])
   lists_got zero at rows ps next h e = absurd (omega arith)

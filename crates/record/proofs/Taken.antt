@@ -62,7 +62,7 @@ module _ (bs : List ℕ) (n from : ℕ) where
       ap (λ q. get_or row q false) (sym e) ∙ sym (get_or-drop low row (p - low) false) ∙ ap (λ z. get_or z (p - low) false) s.blank ∙ none_in (length row - low) (p - low)
 
 -- of k lists from `from` on, those of the first i rows are read, up to `at`; the others are still blank
-pub record Rows_read (bs : List ℕ) (n k from i at : ℕ) (rows : List (List Bool)) : Type 0 where
+pub record RowsRead (bs : List ℕ) (n k from i at : ℕ) (rows : List (List Bool)) : Type 0 where
   pub same : lists itself bs n k from [] ≡ lists itself bs n (k - i) at (rows_of i rows)
   pub blank : (j : ℕ) → i ≤ j → j < k → get_or rows j [] ≡ replicate 768 false
   pub none : NoneOutside n i rows
@@ -83,8 +83,8 @@ module _ (held : List (List Bool)) (s : ℕ) (row : List Bool) (h : s < length h
       (cases_eq t s)
 
 -- the row i is read
-pub read_row : (bs : List ℕ) (n k from i at : ℕ) (rows : List (List Bool)) (row : List Bool) (next : ℕ) → i < k → Rows_read bs n k from i at rows → list itself bs n at ≡ Ok (read (helds 0 row) next) → Empty row n
-    → Rows_read bs n k from (i + 1) next (set rows i row)
+pub read_row : (bs : List ℕ) (n k from i at : ℕ) (rows : List (List Bool)) (row : List Bool) (next : ℕ) → i < k → RowsRead bs n k from i at rows → list itself bs n at ≡ Ok (read (helds 0 row) next) → Empty row n
+    → RowsRead bs n k from (i + 1) next (set rows i row)
 read_row bs n k from i at rows row next h w e none =
     let here : i < length rows = omega (arith, w.tall) in
     let less : k - i - 1 ≡ k - (i + 1) = omega arith in
@@ -96,11 +96,11 @@ read_row bs n k from i at rows row next h w e none =
       tall = length-set rows i row ∙ w.tall;
     }
 
-pub read_wrong : (bs : List ℕ) (n k from i at : ℕ) (rows : List (List Bool)) (f : Fault) → i < k → Rows_read bs n k from i at rows → list itself bs n at ≡ Err f → lists itself bs n k from [] ≡ Err f
+pub read_wrong : (bs : List ℕ) (n k from i at : ℕ) (rows : List (List Bool)) (f : Fault) → i < k → RowsRead bs n k from i at rows → list itself bs n at ≡ Err f → lists itself bs n k from [] ≡ Err f
 read_wrong bs n k from i at rows f h w e = w.same ∙ lists_err itself bs n (k - i) at (rows_of i rows) f (omega arith) e
 
 -- all are read, and rows that hold nothing follow
-pub none_after : (bs : List ℕ) (n k from i at m : ℕ) (rows held : List (List Bool)) → k ≤ i → Rows_read bs n k from i at rows → NoneOutside 0 0 held → NoneOutside n k (rows ++ drop m held)
+pub none_after : (bs : List ℕ) (n k from i at m : ℕ) (rows held : List (List Bool)) → k ≤ i → RowsRead bs n k from i at rows → NoneOutside 0 0 held → NoneOutside n k (rows ++ drop m held)
 none_after bs n k from i at m rows held all r blank s p w =
     ⊎_elim
     (λ (lo : s < length rows).

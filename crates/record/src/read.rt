@@ -106,7 +106,8 @@ fn read_states(reader: &mut Reader<'_>, header: Header, held: &mut Table) -> Res
     Ok(())
 }
 
-// Reads the held places of a state into its row, in which nothing is held yet.
+// Reads the held places of a state into its row, in which nothing is held yet. The reader of logs has a loop like this one: a
+// shared one would be public and require a closure that may be called, which one that writes at a place is not for all numbers.
 fn read_state(
     reader: &mut Reader<'_>,
     places: usize,
