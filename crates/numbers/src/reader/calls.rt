@@ -1,4 +1,4 @@
-ghost use Rattle.std.specs.Prelude.{◌≡◌, ◌^◌, ◌<◌, ◌≤◌, length, drop, IfOk, MatchResult};
+ghost use Rattle.std.specs.Prelude.{◌≡◌, ◌^◌, ◌<◌, ◌≤◌, length, min, drop, IfOk, MatchResult};
 ghost use Rattle.numbers.specs.Numbers.{read_at, within, edition_at, left_over, Bytes, Stands, Refuses};
 ghost use Rattle.numbers.specs.Lists.{entry};
 ghost use Rattle.numbers.specs.Readers.{Answers};
@@ -15,6 +15,17 @@ impl<'a> Reader<'a> {
         ensures start { result.at ≡ 0 }
     {
         Reader { bytes, at: 0 }
+    }
+
+    // Reads bytes from one of them on; past the end there are none.
+    pub fn starting_at(bytes: &'a [u8], at: usize) -> Reader<'a>
+        ensures bytes { result.bytes.now ≡ bytes.now }
+        ensures start { result.at ≡ min at (length bytes.now) }
+    {
+        Reader {
+            bytes,
+            at: at.min(bytes.len()),
+        }
     }
 
     // The index of the byte that is read next.
