@@ -41,6 +41,8 @@ impl Tuples {
     pub fn outside(&self, other: &TupleSet) -> Option<usize>
         ensures { result ≡ outside_of (listed self.now) other.now.held }
     {
+        // Tried: `filter`, `map` and `min`. The search does not prove the chain, and by hand a wrong end would be refused in the
+        // proof's file and not here.
         let mut first = None;
         'tuples: for tuple in (0..MOST_TUPLES).rev() {
             let here = stray(
