@@ -1,5 +1,4 @@
-ghost use Rattle.std.specs.Prelude.{◌≡◌, ◌+◌, ◌-◌, ◌*◌, ◌/◌, ◌%◌, ◌≤◌, true, false};
-ghost use Rattle.lasso.specs.Values.{smaller};
+ghost use Rattle.std.specs.Prelude.{◌≡◌, ◌-◌, true, false};
 ghost use Rattle.lasso.specs.declared.value.Value.TheVariants.{No};
 ghost use Rattle.problem.specs.Sorts.{suits as suits_of, outcome as outcome_of};
 ghost use Rattle.meaning.specs.Tuples.{tuples as tuples_of};
@@ -71,17 +70,13 @@ impl Operands<'_> {
     fn join_value(&self, tuple: usize) -> Value
         ensures { result ≡ join_table self.now.atoms.count (tuples_of self.now.atoms.count (self.now.right.now.arity - 1)) (table_of self.now.left.now) (table_of self.now.right.now) tuple }
     {
-        highest(self.atoms.count(), |atom| self.met_value(tuple, atom))
-    }
-
-    // The value of two tuples that meet at an atom, and come to a tuple.
-    fn met_value(&self, tuple: usize, atom: usize) -> Value
-        ensures { let width = tuples_of self.now.atoms.count (self.now.right.now.arity - 1) in result ≡ smaller (table_of self.now.left.now (tuple / width * self.now.atoms.count + atom)) (table_of self.now.right.now (atom * width + tuple % width)) }
-    {
+        let (left, right) = (self.left, self.right);
         let count = self.atoms.count();
-        let width = self.atoms.tuples(self.right.arity - 1);
-        let left = self.left.value_of_two(tuple / width, count, atom);
-        let right = self.right.value_of_two(atom, width, tuple % width);
-        left.smaller(right)
+        let width = self.atoms.tuples(right.arity - 1);
+        let (first, last) = (tuple / width, tuple % width);
+        highest(count, |atom| {
+            left.value_of_two(first, count, atom)
+                .smaller(right.value_of_two(atom, width, last))
+        })
     }
 }
