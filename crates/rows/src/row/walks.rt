@@ -19,6 +19,7 @@ impl Row {
     {
         let end = window.instants();
         let start = end - window.period();
+        // Tried: `fold` over the same range. The library's lemmas on folds know no `rev`, and no proof closed.
         let mut next = seed;
         'round: for i in (start..end).rev() {
             next = step(i, next);
@@ -32,6 +33,7 @@ impl Row {
         requires step { (i : ℕ) (v : ValueOf) → i < end → F.pre step i v }
         ensures { (f : ℕ → ValueOf → ValueOf) → StepsBy (F.post step) f → RowIs end result.values (λ i. back f seed (end - i) i) }
     {
+        // By index, as `filled` is, and each value comes of the one after it.
         let mut next = seed;
         let mut values = [Value::No; MOST_INSTANTS];
         'fill: for i in (0..end).rev() {
@@ -50,6 +52,7 @@ impl Row {
         requires { (i : ℕ) (v : ValueOf) → i < window.instants → F.pre step i v }
         ensures { (f : ℕ → ValueOf → ValueOf) → StepsBy (F.post step) f → RowIs window.instants result.values (forth f seed) }
     {
+        // By index, as `filled` is, and each value comes of the one before it.
         let mut last = seed;
         let mut values = [Value::No; MOST_INSTANTS];
         'fill: for i in 0..window.instants() {
