@@ -6,7 +6,7 @@ mod counts;
 mod marks;
 mod problems;
 
-use anyhow::{Context, Result, bail};
+use anyhow::{Context, Result, anyhow, bail};
 use counts::Counts;
 use logs::Log;
 use problem::Problem;
@@ -47,19 +47,18 @@ fn measure(rt: &HostRuntime, name: &str, text: &[u8], count: u32) -> Result<()> 
 // The problem that a text is.
 fn problem_of(rt: &HostRuntime, text: &[u8]) -> Result<Problem> {
     let mut problem = Problem::fresh(rt.alloc())?;
-    match read(text, &mut problem, rt.alloc()) {
-        Ok(()) => Ok(problem),
-        Err(_) => bail!("the problem is not read"),
+    if read(text, &mut problem, rt.alloc()).is_err() {
+        bail!("the problem is not read");
     }
+    Ok(problem)
 }
 
 // The log that bytes are.
 fn log_of(bytes: &'static [u8]) -> Result<Log<'static>> {
     let mut log = Log::fresh();
-    match log.read(bytes) {
-        Ok(()) => Ok(log),
-        Err(fault) => bail!("the log is refused: {fault}"),
-    }
+    log.read(bytes)
+        .map_err(|fault| anyhow!("the log is refused: {fault}"))?;
+    Ok(log)
 }
 
 // So many verdicts, by one log and the other in turn.
@@ -71,10 +70,7 @@ fn verdicts(problem: &Problem, cold: &Log<'_>, hot: &Log<'_>, count: u32) -> Res
         } else {
             verdict(problem, hot)
         };
-        match found {
-            Ok(value) => counts.count(value),
-            Err(fault) => bail!("there is no verdict: {fault}"),
-        }
+        counts.count(found.map_err(|fault| anyhow!("there is no verdict: {fault}"))?);
     }
     Ok(counts)
 }

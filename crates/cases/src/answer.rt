@@ -66,7 +66,7 @@ fn to_case(word: &[u8], text: &[u8], heap: Global) -> Result<Answer, AllocError>
 fn kind_of(word: &[u8]) -> Option<Kind>
     ensures { IsKind word.now result }
 {
-    // Tried: byte strings as patterns, which split a word that fits none of them into 23 cases.
+    // Tried: byte strings as patterns. A word that fits none of them is split into 23 cases, and their proof did not close.
     if is_word(word, b"record") {
         return Some(Kind::Record);
     }
@@ -82,7 +82,7 @@ fn kind_of(word: &[u8]) -> Option<Kind>
     None
 }
 
-// Whether two words are the same.
+// Whether two words are the same: `==`, with what it means as a contract, which the search needs of a literal's bytes.
 fn is_word(word: &[u8], other: &[u8]) -> bool
     ensures { Decides result (word.now ≡ other.now) }
 {
@@ -153,7 +153,8 @@ fn to_text(text: &[u8], heap: Global) -> Result<Answer, AllocError>
     }
 }
 
-// The answer to a problem text and a log, both in hexadecimal, with a space between them.
+// The answer to a problem text and a log, both in hexadecimal, with a space between them. It reads the text as above: what the two
+// share is the match on what comes of it, whose arms differ.
 fn to_pair(text: &[u8], heap: Global) -> Result<Answer, AllocError>
     ensures { IfOk result (λ a. OfPair text.now a) }
 {

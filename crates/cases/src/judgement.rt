@@ -41,6 +41,7 @@ fn by_source<S: Source>(problem: &Problem, source: &S) -> Result<Value, NoVerdic
     verdict(problem, source).map_err(NoVerdict::Unfit)
 }
 
+// By hand: what is printed of a misfit depends on the fault, which no attribute of a variant says.
 impl fmt::Display for NoVerdict {
     fn fmt<W: fmt::Write>(&self, f: &mut fmt::Formatter<W>) -> fmt::Result {
         match *self {

@@ -5,8 +5,7 @@ ghost use Rattle.std.specs.Prelude.{◌≡◌, ◌≤◌};
 ghost use Rattle.faults.specs.Table.{entry, layer_of};
 
 use lasso::Instant;
-
-mod words;
+use thiserror::Error;
 
 // Which part of the product refuses.
 #[derive(Clone, Copy, PartialEq, Eq, Debug)]
@@ -19,32 +18,57 @@ pub enum Layer {
 }
 
 // Why something is refused. A place is the index of a byte of what was read; in a contradiction it is a place of the problem.
-#[derive(Clone, Copy, PartialEq, Eq, Debug)]
+#[derive(Clone, Copy, PartialEq, Eq, Debug, Error)]
 pub enum Fault {
+    #[error("the text has more than 8,192 bytes")]
     TextTooLong,
+    #[error("this byte begins no name, number or sign")]
     NoToken { place: usize },
+    #[error("a name has at most 12 bytes, a number at most 3 digits")]
     TokenTooLong { place: usize },
+    #[error("this cannot stand here")]
     NotAllowed { place: usize },
+    #[error("this name is taken already")]
     NameKnown { place: usize },
+    #[error("this name is not known here")]
     NameUnknown { place: usize },
+    #[error("the arities do not fit")]
     ArityMismatch { place: usize },
+    #[error("a limit is not kept here")]
     OverLimit { place: usize },
+    #[error("this tuple of the lower set is not in the upper set")]
     LowerOutsideUpper { place: usize },
+    #[error("there are more than 256 free places")]
     TooManyFreePlaces { place: usize },
+    #[error("the bytes end too early")]
     EndsEarly { place: usize },
+    #[error("this number is not in its shortest form, or has more than three groups")]
     NotShortest { place: usize },
+    #[error("only edition 1 is known")]
     UnknownEdition { place: usize },
+    #[error("this number is outside its limits")]
     OutsideLimits { place: usize },
+    #[error("the places must ascend and lie below the place count")]
     PlaceOutOfOrder { place: usize },
+    #[error("bytes are left over")]
     BytesLeftOver { place: usize },
+    #[error("fewer states would do for the same behaviour")]
     FewerStatesWouldDo,
+    #[error("there are more than 32,768 bytes")]
     TooManyBytes,
+    #[error("the problem and the source differ in their place counts")]
     PlaceCountsDiffer,
+    #[error("the source contradicts the bounds or itself at this place")]
     Contradiction { place: usize, instant: Instant },
+    #[error("no configuration is at hand")]
     NoConfiguration,
+    #[error("this configuration has no more traces")]
     NoMoreTraces,
+    #[error("there are no more configurations")]
     NoMoreConfigurations,
+    #[error("the buffer is too short")]
     BufferTooShort,
+    #[error("a source has at most 768 places, and a part of a trace at most 16 instants")]
     OutsideSource,
 }
 

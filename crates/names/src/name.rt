@@ -5,7 +5,7 @@ mod calls;
 // The most bytes of a name.
 pub const MOST_BYTES: usize = 12;
 
-// A name of its own: its bytes, of which there are few, so that no name asks for memory.
+// A name of its own: its bytes, of which there are few. An array and a length, since a name is copied and asks for no memory.
 #[derive(Clone, Copy)]
 pub struct Name {
     bytes: [u8; MOST_BYTES],

@@ -20,22 +20,21 @@ pub enum Members {
 pub fn atoms_of(problem: &Problem, tuple: Tuple) -> Option<Members>
     ensures { MatchOption result (slice_index (sizes_in problem.now) tuple.relation ≤ tuple.tuple) (λ m. AtomsAre (length (atoms_in problem.now)) (relation_at (relations_in problem.now) tuple.relation).arity tuple.tuple m) }
 {
-    let (relation, number) = (tuple.relation, tuple.tuple);
-    if number < problem.size(relation) {
-        return Some(split(problem, relation, number));
+    if tuple.tuple < problem.size(tuple.relation) {
+        return Some(split(problem, tuple));
     }
     None
 }
 
 // The atoms of a tuple that there is.
-fn split(problem: &Problem, relation: usize, number: usize) -> Members
-    requires { number < slice_index (sizes_in problem.now) relation }
-    ensures { AtomsAre (length (atoms_in problem.now)) (relation_at (relations_in problem.now) relation).arity number result }
+fn split(problem: &Problem, at: Tuple) -> Members
+    requires { at.tuple < slice_index (sizes_in problem.now) at.relation }
+    ensures { AtomsAre (length (atoms_in problem.now)) (relation_at (relations_in problem.now) at.relation).arity at.tuple result }
 {
     divided(
-        arity_at(problem.relations(), relation),
+        arity_at(problem.relations(), at.relation),
         problem.atoms().len(),
-        number,
+        at.tuple,
     )
 }
 

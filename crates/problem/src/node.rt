@@ -68,7 +68,8 @@ pub enum Quantifier {
     Some,
 }
 
-// A part of a formula. Its own parts are given by their indices in the list of nodes, and stand before it.
+// A part of a formula. Its own parts are given by their indices in the list of nodes, and stand before it: the memory of a problem is
+// asked for once, and a box for each part would be asked for one by one.
 #[derive(Clone, Copy, PartialEq, Eq, Debug)]
 pub enum Node {
     Relation(usize),

@@ -29,7 +29,8 @@ fn put_record(trace: &Trace, buffer: &mut [u8]) -> usize
     put_states(trace, buffer)
 }
 
-// Writes the header, and then lends what is left of the buffer to the writer of one state.
+// Writes the header, and then lends what is left of the buffer, from its middle, to the writer of one state. So no writer holds the
+// buffer and the index together.
 #[tactic(auto, using(crate::proofs::Written::state_then, crate::proofs::Written::state_room))]
 fn put_states(trace: &Trace, buffer: &mut [u8]) -> usize
     requires { length (record_of (said trace.now)) ≤ length buffer.old }

@@ -75,7 +75,8 @@ impl<'a> Reader<'a> {
         Ok(first.value)
     }
 
-    // Reads a number that must lie within limits.
+    // Reads a number that must lie within limits. It reads ahead and moves on at its end, as the two below do: what the three share
+    // is two lines, and a shared function would take the test as a closure.
     pub fn within(&mut self, low: usize, high: usize) -> Result<usize, Fault>
         ensures same { self.new.bytes.now ≡ self.old.bytes.now }
         ensures value { Answers (within self.old.bytes.now self.old.at low high) self.old.at result self.new.at }

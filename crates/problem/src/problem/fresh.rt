@@ -26,7 +26,7 @@ fn one_atom(heap: Global) -> Result<Declarations, AllocError>
     ensures { IfOk result (λ d. OneAtom d) }
 {
     let mut declared = Declarations::new(heap)?;
-    let _ = declared.add_atom(Name::new(b"a"));
+    declared.add_atom(Name::new(b"a")).unwrap();
     Ok(declared)
 }
 
@@ -35,7 +35,11 @@ fn filled(mut draft: Draft) -> Problem
     requires { (sorts_of draft ≡ []) × (nodes_of draft ≡ []) }
     ensures { Filled draft result }
 {
-    let _ = draft.put(Kind::Expression, Node::Constant(Constant::None), 0);
-    let _ = draft.put(Kind::Formula, Node::Tested(Test::No, 0), 0);
+    draft
+        .put(Kind::Expression, Node::Constant(Constant::None), 0)
+        .unwrap();
+    draft
+        .put(Kind::Formula, Node::Tested(Test::No, 0), 0)
+        .unwrap();
     Problem { draft }
 }

@@ -12,9 +12,9 @@ use Rattle.places.proofs.members.split.Goals as goal
 pub divided-requires : goal.divided-requires
 divided-requires c =
     let p = c.args.problem.now in
-    let i = c.args.relation in
+    let i = c.args.at.relation in
     let n = length (atoms_in p) in
-    let l : i < length (relations_in p) = omega (arith, sizes_len p, within (sizes_in p) i c.args.number c.requires) in
+    let l : i < length (relations_in p) = omega (arith, sizes_len p, within (sizes_in p) i c.args.at.tuple c.requires) in
     let a : c.arity_at.result ≡ (relation_at (relations_in p) i).arity = c.arity_at.ensures ∙ ap (λ (rs : List Declared). (relation_at rs i).arity) c.relations.ensures.value in
     let e : get_or (sizes_in p) i 0 ≡ size_of n (relation_at (relations_in p) i).arity = get_or-map (declared_size n) (relations_in p) i no_relation 0 l in
     let f : size_of (length c.atoms.result.now) c.arity_at.result ≡ get_or (sizes_in p) i 0 =
@@ -24,8 +24,8 @@ divided-requires c =
 pub returns : goal.returns
 returns c =
     let p = c.args.problem.now in
-    let i = c.args.relation in
-    let t = c.args.number in
+    let i = c.args.at.relation in
+    let t = c.args.at.tuple in
     let m = c.divided.result in
     let a : c.arity_at.result ≡ (relation_at (relations_in p) i).arity = c.arity_at.ensures ∙ ap (λ (rs : List Declared). (relation_at rs i).arity) c.relations.ensures.value in
     subst (λ (n : ℕ). AtomsAre n (relation_at (relations_in p) i).arity t m) c.atoms.ensures.len
