@@ -51,7 +51,8 @@ impl Evaluator<'_> {
         requires room { tuples_of self.now.setting.atoms.count arity ≤ 4 * N }
         ensures { StatesAre self.now.setting.atoms.count self.now.setting.problem.now self.now.setting.table.now node result }
     {
-        // A loop of its own: of a closure for `in_each_state` whose result names N there is no proof yet.
+        // A loop of its own: a closure for `in_each_state`, or for `array::from_fn`, gets no proof yet where its result alone names N, and
+        // a value captured to name it too would be there for that alone.
         let mut values = [Packed::none(); MOST_STATES];
         'states: for s in 0..self.setting.table.shape().states() {
             values[s] = self.packed(node, State(s));
