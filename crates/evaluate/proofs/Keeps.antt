@@ -1,12 +1,8 @@
 -- What is kept of expressions that use no variable.
-use Rattle.std.proofs.Common.{true, ◌≡◌, ℕ, ◌+◌, ◌<◌, ◌≤◌, List, length, sym, ap, ◌∙◌, subst, arith}
-use Rattle.std.specs.Prelude.{slice_index_or}
-use Rattle.std.proofs.Math.Nat.{mul-le-mul_left}
-use Rattle.lasso.specs.declared.value.Value.{Value}
-use Rattle.lasso.specs.declared.value.Value.TheVariants.{Open}
-use Rattle.relations.specs.declared.relation.Arity.{Arity}
-use Rattle.relations.specs.declared.relation.Arity.TheVariants.{One, Two}
-use Rattle.relations.specs.Relations.{arity_number}
+use Rattle.std.proofs.Common.{true, ◌≡◌, ℕ, ◌*◌, ◌<◌, ◌≤◌, Option, Some, None, List, [], length, refl, sym, ap, ◌∙◌, subst, arith}
+use Rattle.std.specs.Prelude.{IfSome, slice_index_or}
+use Rattle.lasso.proofs.Folds.{state_at_below}
+use Rattle.lasso.specs.Lassos.{state_at}
 use Rattle.problem.specs.declared.problem.Problem.{Problem}
 use Rattle.problem.specs.Sorts.{is_expression, sort_at, arity_at, bound_at}
 use Rattle.problem.specs.Problems.{nodes_in, sorts_in}
@@ -16,27 +12,45 @@ use Rattle.meaning.specs.Trees.{no_variable}
 use Rattle.meaning.proofs.Nodes.{sorted_in, tree_arity}
 use Rattle.table.specs.declared.table.Table.{Table}
 use Rattle.table.specs.Tables.{path_of}
+use Rattle.tuples.specs.declared.packed.Packed.{Packed}
 use Rattle.tuples.specs.declared.tuples.Tuples.{Tuples}
+use Rattle.tuples.specs.Packing.{packed_table}
 use Rattle.tuples.specs.Tabled.{Tabled}
+use Rattle.evaluate.specs.declared.kept.States.{States}
 use Rattle.evaluate.specs.Shown.{expr_in, ExpressionIs}
-use Rattle.evaluate.specs.Known.{Kept}
+use Rattle.evaluate.specs.Known.{PackedIs, StatesAre}
 use Rattle.evaluate.proofs.Closed.{steady}
 
-few_tuples : (n : ℕ) (a : Arity) → n ≤ 8 → tuples n (arity_number a) ≤ 64
-few_tuples n One h = omega arith
-few_tuples n Two h = omega (arith, mul-le-mul_left n h)
+module _ {k : ℕ} (n : ℕ) (p : Problem) (t : Table) (j : ℕ) (x : States k) (there : j < length (nodes_in p)) where
+  -- where each state has its first values, and there is room for all of them
+  pub states_are :
+      is_expression (sort_at (sorts_in p) j) ≡ true → bound_at (sorts_in p) j ≡ 0 → x.arity ≡ arity_at (sorts_in p) j → tuples n x.arity ≤ 4 * k →
+      ((s : ℕ) (beyond : Packed k) → s < t.shape.states → PackedIs n p t j s (slice_index_or x.values s beyond)) → StatesAre n p t j x
+  states_are some closed ea room each = (
+    some,
+    closed,
+    ea,
+    λ i beyond q l.
+        let b : arity (expr_in p j) ≡ x.arity = tree_arity (sorted_in p) j there some ∙ sym ea in
+        let m : q < tuples n x.arity = subst (λ (z : ℕ). q < tuples n z) b l in
+        (each (state_at t.shape.states t.shape.loop_start i) beyond (state_at_below t.shape.states t.shape.loop_start i t.shape.loops)).value i q refl (omega (arith, m, room)) l,
+  )
 
--- what is kept of an expression that uses no variable is its set of tuples
-pub kept_is :
-    (n : ℕ) (p : Problem) (t : Table) (e : List ℕ) (i s : ℕ) (a : Arity) (vs : List Value) (r : Tuples) → n ≤ 8 → i < length (nodes_in p) → is_expression (sort_at (sorts_in p) i) ≡ true → bound_at (sorts_in p) i ≡ 0 →
-    arity_number a ≡ arity_at (sorts_in p) i → Kept n p t i s vs → Tabled n (arity_number a) (λ q. slice_index_or vs (0 + q) Open) r → ExpressionIs n p t e i s r
-kept_is n p t e i s a vs r few there some closed ea kept tabled =
-    let b : arity_number a ≡ arity (expr_in p i) = ea ∙ sym (tree_arity (sorted_in p) i there some) in
-    record {
-      atoms = tabled.0 ∙ b;
-      value = λ j at q l.
-          let m : q < tuples n (arity_number a) = subst (λ (z : ℕ). q < tuples n z) (sym b) l in
-          let f : tuples n (arity_number a) ≤ 64 = few_tuples n a few in
-          let z : 0 + q ≡ q = omega arith in
-          tabled.1 q m ∙ ap (λ (y : ℕ). slice_index_or vs y Open) z ∙ kept j at q (omega arith) l ∙ steady n (path_of t) p i there closed no_variable e j q;
-    }
+  -- what is kept of an expression that uses no variable is its set of tuples
+  pub kept_is :
+      (s : ℕ) (o : Option Tuples) → StatesAre n p t j x → IfSome o (λ r. (beyond : Packed k) → Tabled n x.arity (packed_table (slice_index_or x.values s beyond)) r) →
+      IfSome o (λ r. (e : List ℕ) → ExpressionIs n p t e j s r)
+  kept_is s None right all = tt
+  kept_is s (Some r) right all = λ e.
+      let b : x.arity ≡ arity (expr_in p j) = right.2 ∙ sym (tree_arity (sorted_in p) j there right.0) in
+      let beyond : Packed k = record { fours = [] } in
+      let tabled = all beyond in
+      record {
+        atoms = tabled.0 ∙ b;
+        value = λ i at q l.
+            let m : q < tuples n x.arity = subst (λ (z : ℕ). q < tuples n z) (sym b) l in
+            tabled.1 q m
+            ∙ ap (λ (z : ℕ). packed_table (slice_index_or x.values z beyond) q) (sym at)
+            ∙ right.3 i beyond q l
+            ∙ steady n (path_of t) p j there right.1 no_variable e i q;
+      }

@@ -1,5 +1,5 @@
 -- What is right of all that is kept stays right.
-use Rattle.std.proofs.Common.{◌≡◌, ℕ, zero, suc, ◌<◌, ◌≤◌, ◌≢◌, List, replicate, length, set, get_or, Option, Some, None, refl, sym, ap, ◌∙◌, subst, ⊎_elim, arith, get_or-set_other, get_or-set_same}
+use Rattle.std.proofs.Common.{◌≡◌, ℕ, zero, suc, ◌<◌, ◌≤◌, ◌≢◌, List, replicate, length, set, get_or, Option, Some, None, refl, sym, ap, ◌∙◌, subst, ◌⊎◌, inl, inr, ⊎_elim, arith, get_or-set_other, get_or-set_same}
 use Rattle.std.proofs.lemmas.Bool.{cases_lt}
 use Rattle.std.proofs.lemmas.List.{set_past}
 
@@ -34,3 +34,9 @@ module _ {T : Type 0} (P : ℕ → T → Type 0) where
       (λ lt. other (omega arith))
       (λ ge. ⊎_elim (λ gt. other (omega arith)) (λ le. ⊎_elim (λ lt. here (omega arith) lt) beyond (cases_lt m (length ks))) (cases_lt m j))
       (cases_lt j m)
+
+  -- where one more is kept, at whatever place, or none
+  pub put_few_right :
+      (ks new : List (Option T)) (x : T) → Right P ks → ((m : ℕ) → P m x) → (new ≡ ks) ⊎ ((m : ℕ) × (new ≡ set ks m (Some x))) → Right P new
+  put_few_right ks new x old own (inl e) = subst (Right P) (sym e) old
+  put_few_right ks new x old own (inr (m, e)) = subst (Right P) (sym e) (put_right ks m x old (own m))

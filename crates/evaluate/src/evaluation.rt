@@ -9,6 +9,7 @@ ghost use Rattle.meaning.specs.Tables.{table_at};
 ghost use Rattle.table.specs.Tables.{path_of};
 
 use super::evaluator::Evaluator;
+use super::few::Few;
 use super::kept::Kept;
 use super::setting::Setting;
 use lasso::{Instant, Value};
@@ -45,6 +46,7 @@ fn blank(setting: Setting<'_>) -> Evaluator<'_>
     Evaluator {
         setting,
         tables: Kept::nothing(),
+        large: Few::nothing(),
         rows: Kept::nothing(),
     }
 }

@@ -1,6 +1,7 @@
-ghost use Rattle.evaluate.specs.Known.{KnownIs};
+ghost use Rattle.evaluate.specs.Known.{KnownIs, LargeAre};
 ghost use Rattle.evaluate.specs.Kept.{KeptIs};
 
+use super::few::Few;
 use super::kept::{Kept, States};
 use super::setting::Setting;
 use rows::Row;
@@ -11,8 +12,10 @@ use rows::Row;
 #[derive(Drop)]
 pub(crate) struct Evaluator<'p> {
     pub(crate) setting: Setting<'p>,
-    pub(crate) tables: Kept<States>,
+    pub(crate) tables: Kept<States<16>>,
+    pub(crate) large: Few<States<128>>,
     pub(crate) rows: Kept<Row>,
     ghost known: { KnownIs setting.atoms.count setting.problem.now setting.table.now tables.items },
+    ghost listed: { LargeAre setting.atoms.count setting.problem.now setting.table.now large.entries },
     ghost kept: { KeptIs setting.atoms.count setting.window setting.problem.now setting.table.now rows.items },
 }

@@ -1,48 +1,71 @@
-ghost use Rattle.std.specs.Prelude.{◌≡◌, ◌<◌, true, length};
-ghost use Rattle.relations.specs.Relations.{arity_number};
+ghost use Rattle.std.specs.Prelude.{◌≡◌, ◌*◌, ◌<◌, ◌≤◌, true, length};
 ghost use Rattle.problem.specs.Sorts.{is_expression, sort_at, arity_at, bound_at};
 ghost use Rattle.problem.specs.Problems.{nodes_in, sorts_in};
-ghost use Rattle.meaning.specs.Trees.{no_variable};
-ghost use Rattle.evaluate.specs.Known.{StatesAre};
-ghost use Rattle.evaluate.specs.Members.{FirstAre};
+ghost use Rattle.meaning.specs.Tuples.{tuples as tuples_of};
+ghost use Rattle.evaluate.specs.Known.{PackedIs, StatesAre};
 
 use super::evaluator::Evaluator;
 use super::kept::States;
-use super::parts::{is_closed, small};
-use lasso::Value;
-use relations::Arity;
+use super::parts::{closed_arity, is_beside_variable, is_closed};
+use lasso::State;
+use table::MOST_STATES;
+use tuples::Packed;
 
 impl Evaluator<'_> {
-    // Works out the expressions of all nodes that use no variable and have few tuples, each after its parts.
+    // Works out the expressions of all nodes that use no variable, each after its parts.
     pub(crate) fn keep_tables(&mut self)
         ensures { self.new.setting ≡ self.old.setting }
     {
         'nodes: for node in 0..self.setting.problem.parts().len() {
-            if let Some(arity) = small(self.setting.problem, node) {
-                let states = self.states_of(node, arity);
-                self.tables.put(node, states);
+            if let Some(arity) = closed_arity(self.setting.problem, node) {
+                self.keep_table(node, arity);
             }
         }
     }
 
+    // Works out the expression of a node that uses no variable. One of more than 64 tuples, which have three atoms, takes eight times the
+    // room, and is kept only where it is asked for at each binding: as a part of a node that uses a variable.
+    fn keep_table(&mut self, node: usize, arity: usize)
+        requires there { node < length (nodes_in self.old.setting.problem.now) }
+        requires closed { bound_at (sorts_in self.old.setting.problem.now) node ≡ 0 }
+        requires expression { is_expression (sort_at (sorts_in self.old.setting.problem.now) node) ≡ true }
+        requires arity { arity ≡ arity_at (sorts_in self.old.setting.problem.now) node }
+        requires few { arity ≤ 3 }
+        ensures { self.new.setting ≡ self.old.setting }
+    {
+        if self.setting.atoms.tuples(arity) <= 64 {
+            let states = self.states_of(node, arity);
+            self.tables.put(node, states);
+        } else if is_beside_variable(self.setting.problem, node) {
+            let states = self.states_of(node, arity);
+            self.large.put(node, states);
+        }
+    }
+
     // The values of the expression of a node in each state, with no variable bound.
-    fn states_of(&self, node: usize, arity: Arity) -> States
+    fn states_of<const N: usize>(&self, node: usize, arity: usize) -> States<N>
         requires there { node < length (nodes_in self.now.setting.problem.now) }
         requires closed { bound_at (sorts_in self.now.setting.problem.now) node ≡ 0 }
         requires expression { is_expression (sort_at (sorts_in self.now.setting.problem.now) node) ≡ true }
-        requires arity { arity_number arity ≡ arity_at (sorts_in self.now.setting.problem.now) node }
+        requires arity { arity ≡ arity_at (sorts_in self.now.setting.problem.now) node }
+        requires room { tuples_of self.now.setting.atoms.count arity ≤ 4 * N }
         ensures { StatesAre self.now.setting.atoms.count self.now.setting.problem.now self.now.setting.table.now node result }
     {
-        States {
-            arity,
-            values: self.in_each_state(
-                [Value::No; 64],
-                |state| -> [Value; 64]
-                    requires { node < length (nodes_in self.now.setting.problem.now) }
-                    ensures { FirstAre 64 self.entry.now.setting.atoms.count self.entry.now.setting.problem.now self.entry.now.setting.table.now no_variable node state.0 result }
-                { self.first_values(&[0; 4], node, state) },
-            ),
+        // A loop of its own: a closure for `in_each_state`, or for `array::from_fn`, gets no proof yet where its result alone names N, and
+        // a value captured to name it too would be there for that alone.
+        let mut values = [Packed::none(); MOST_STATES];
+        'states: for s in 0..self.setting.table.shape().states() {
+            values[s] = self.packed(node, State(s));
         }
+        States { arity, values }
+    }
+
+    // The values of the expression of a node in a state, with no variable bound.
+    fn packed<const N: usize>(&self, node: usize, state: State) -> Packed<N>
+        requires { node < length (nodes_in self.now.setting.problem.now) }
+        ensures { PackedIs self.now.setting.atoms.count self.now.setting.problem.now self.now.setting.table.now node state.0 result }
+    {
+        Packed::of(&self.expression(&[0; 4], node, state))
     }
 
     // Works out the rows of all nodes that use no variable, each after its parts.

@@ -1,15 +1,27 @@
 ghost use Rattle.std.specs.Prelude.{◌≡◌, IfSome, replicate, slice_index_or, slice_set};
+ghost use Rattle.tuples.specs.Tabled.{Tabled};
+ghost use Rattle.tuples.specs.Packing.{packed_table};
+ghost use Rattle.tuples.specs.declared.packed.Packed.{Packed as PackedSet};
 
-use lasso::Value;
-use relations::Arity;
+use lasso::State;
 use table::MOST_STATES;
+use tuples::{Atoms, Packed, Tuples};
 
-// The values of an expression in each state: those of its first 64 tuples, of one or two atoms. Arrays and no `Vec`: evaluation may
-// not run out of memory.
+// The values of an expression in each state, of an arity: those of its first 4 × N tuples. Packed, since there are many of these on the
+// stack; arrays and no `Vec`, since evaluation may not run out of memory.
 #[derive(Clone, Copy)]
-pub(crate) struct States {
-    pub(crate) arity: Arity,
-    pub(crate) values: [[Value; 64]; MOST_STATES],
+pub(crate) struct States<const N: usize> {
+    pub(crate) arity: usize,
+    pub(crate) values: [Packed<N>; MOST_STATES],
+}
+
+impl<const N: usize> States<N> {
+    // The values in a state.
+    pub(crate) fn tuples(&self, state: State, atoms: Atoms) -> Option<Tuples>
+        ensures { IfSome result (λ t. (beyond : PackedSet N) → Tabled atoms.count self.now.arity (packed_table (slice_index_or self.now.values state.0 beyond)) t) }
+    {
+        self.values.get(state.0)?.tuples(self.arity, atoms)
+    }
 }
 
 // What is kept of some nodes, by their numbers. An array and no `Vec`: evaluation may not run out of memory.

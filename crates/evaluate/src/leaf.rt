@@ -94,15 +94,10 @@ impl Evaluator<'_> {
         )
     }
 
-    // The values of the first tuples of the expression of a node in a state.
-    pub(crate) fn first_values<const N: usize>(
-        &self,
-        variables: &[usize; 4],
-        node: usize,
-        state: State,
-    ) -> [Value; N]
+    // The values of the first 8 tuples of the expression of a node in a state.
+    fn first_values(&self, variables: &[usize; 4], node: usize, state: State) -> [Value; 8]
         requires { node < length (nodes_in self.now.setting.problem.now) }
-        ensures { FirstAre N self.now.setting.atoms.count self.now.setting.problem.now self.now.setting.table.now variables.now node state.0 result }
+        ensures { FirstAre 8 self.now.setting.atoms.count self.now.setting.problem.now self.now.setting.table.now variables.now node state.0 result }
     {
         self.expression(variables, node, state).first()
     }

@@ -4,6 +4,7 @@
 mod evaluation;
 mod evaluator;
 mod expression;
+mod few;
 mod formula;
 mod gathering;
 mod keeping;

@@ -14,9 +14,10 @@ impl Evaluator<'_> {
         requires { node < length (nodes_in self.now.setting.problem.now) }
         ensures { IfSome result (λ r. (e : List ℕ) → ExpressionAt self.now.setting e node state.0 r) }
     {
-        let states = self.tables.get(node)?;
-        let values = states.values.get(state.0)?;
-        Some(Tuples::relation(values, 0, states.arity, self.setting.atoms))
+        match self.tables.get(node) {
+            Some(states) => states.tuples(state, self.setting.atoms),
+            None => self.large.get(node)?.tuples(state, self.setting.atoms),
+        }
     }
 
     // The row that is kept of a node, for any variables.

@@ -1,4 +1,4 @@
-ghost use Rattle.std.specs.Prelude.{◌≡◌, ◌<◌, Decides, true, length, IfSome, slice_index, slice_set};
+ghost use Rattle.std.specs.Prelude.{◌≡◌, ◌<◌, ◌≤◌, Decides, true, length, IfSome, slice_index, slice_set};
 ghost use Rattle.lasso.specs.Lassos.{following};
 ghost use Rattle.relations.specs.Declarations.{arities};
 ghost use Rattle.relations.specs.Relations.{arity_number};
@@ -40,20 +40,39 @@ fn bound_of(problem: &Problem, node: usize) -> usize
     problem.sort(node).map_or(0, |sort| sort.bound())
 }
 
-// The arity of an expression that uses no variable, where that is one or two.
-pub(crate) fn small(problem: &Problem, node: usize) -> Option<Arity>
-    ensures { IfSome result (λ a. (is_expression (sort_at (sorts_in problem.now) node) ≡ true) × (bound_at (sorts_in problem.now) node ≡ 0) × (arity_number a ≡ arity_at (sorts_in problem.now) node)) }
+// The arity of an expression that uses no variable.
+pub(crate) fn closed_arity(problem: &Problem, node: usize) -> Option<usize>
+    ensures { IfSome result (λ a. (is_expression (sort_at (sorts_in problem.now) node) ≡ true) × (bound_at (sorts_in problem.now) node ≡ 0) × (a ≡ arity_at (sorts_in problem.now) node) × (a ≤ 3)) }
 {
-    small_arity(problem.sort(node)?)
+    arity_if_closed(problem.sort(node)?)
 }
 
-// The arity of what uses no variable, where that is one or two.
-fn small_arity(sort: Sort) -> Option<Arity>
-    ensures { IfSome result (λ a. (is_expression sort ≡ true) × (sort_bound sort ≡ 0) × (arity_number a ≡ sort_arity sort)) }
+// The arity of what is an expression that uses no variable: 1 to 3.
+fn arity_if_closed(sort: Sort) -> Option<usize>
+    ensures { IfSome result (λ a. (is_expression sort ≡ true) × (sort_bound sort ≡ 0) × (a ≡ sort_arity sort) × (a ≤ 3)) }
 {
     match sort {
-        Sort::Expression { arity, bound: 0 } => Arity::try_from(arity).ok(),
+        Sort::Expression {
+            arity: arity @ 1..=3,
+            bound: 0,
+        } => Some(arity),
         _ => None,
+    }
+}
+
+// Whether an expression that uses no variable, and is no domain, is a part of a node that uses one: then it is one of two parts, since
+// the other uses it.
+pub(crate) fn is_beside_variable(problem: &Problem, node: usize) -> bool {
+    problem.parts().iter().any(|whole| whole.sort.bound() > 0 && is_one_of_two(node, whole.node))
+}
+
+// Whether a node is one of the two expressions that another is made of.
+fn is_one_of_two(node: usize, whole: Node) -> bool {
+    match whole {
+        Node::Combined(_, left, right) | Node::Compared(_, left, right) => {
+            left == node || right == node
+        }
+        _ => false,
     }
 }
 

@@ -1,2 +1,3 @@
 pub mod Folds
 pub mod Rounds
+pub mod Packs

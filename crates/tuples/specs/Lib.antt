@@ -1,1 +1,2 @@
 pub mod Tabled
+pub mod Packing

@@ -2,7 +2,9 @@
 #![tactic(auto)]
 
 mod atoms;
+mod packed;
 mod tuples;
 
 pub use atoms::{Atoms, MOST_ATOMS};
+pub use packed::Packed;
 pub use tuples::{Tuples, quantified};

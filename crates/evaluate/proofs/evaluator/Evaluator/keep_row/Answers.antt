@@ -12,6 +12,7 @@ invariant_of-self c =
     let own = row_closed g.atoms.count g.window g.problem.now g.table.now c.args.node no_variable c.formula-row.result.values c.requires.there c.requires.closed refl c.formula-row.ensures in
     record {
       known = s.known;
+      listed = s.listed;
       kept = subst (Right (RowKept g.atoms.count g.window g.problem.now g.table.now)) (sym c.put.ensures)
           (put_right (RowKept g.atoms.count g.window g.problem.now g.table.now) s.rows.items c.args.node c.formula-row.result s.kept own);
     }

@@ -1,17 +1,11 @@
-use Rattle.std.proofs.Common.{[], slice_index_or, rules}
-use Rattle.lasso.specs.declared.value.Value.TheVariants.{Open}
-use Rattle.meaning.specs.Trees.{no_variable}
-use Rattle.evaluate.specs.Members.{FirstAre}
+use Rattle.std.proofs.Common.{ap, arith}
+use Rattle.lasso.specs.declared.shape.Shape.{Shape}
+use Rattle.evaluate.proofs.Keeps.{states_are}
 use Rattle.evaluate.proofs.evaluator.Evaluator.states_of.Goals as goal
 
 pub returns : goal.returns
-returns c = (
-  c.requires.expression,
-  c.requires.closed,
-  c.requires.arity,
-  λ s l i at q few inside.
-      let g = c.args.self.now.setting in
-      let h = c.in_each_state.ensures s [] l in
-      let first : FirstAre 64 g.atoms.count g.problem.now g.table.now no_variable c.args.node s (slice_index_or c.in_each_state.result s []) = search rules in
-      first.value i q Open at few inside,
-)
+returns g c =
+    let s = c.args.self.now.setting in
+    let end = ap (λ (x : Shape). x.states) c.shape.ensures.value in
+    states_are s.atoms.count s.problem.now s.table.now c.args.node (record { arity = c.args.arity; values = c.states.values }) c.requires.there c.requires.expression c.requires.closed c.requires.arity c.requires.room
+    (λ i beyond l. c.states.invariant.1 i beyond (omega (arith, l, end, c.states-s-end.ensures.value, c.states-test.false)))
