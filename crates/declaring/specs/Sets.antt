@@ -1,5 +1,6 @@
 -- How a set of tuples is read, for src/tuples and src/sets. Assumes nothing.
 use Rattle.std.specs.Prelude.{ℕ, zero, suc, ◌+◌, ◌*◌, min, Bool, true, false, cond, not, ◌&&◌, List, [], ◌∷◌, length, replicate, Some, None, Ok, Err, Option, Result, slice_index_or, slice_set}
+use Rattle.std.specs.Option.{ok_or}
 use Rattle.faults.specs.declared.Fault.{Fault}
 use Rattle.faults.specs.declared.Fault.TheVariants.{NameUnknown, ArityMismatch}
 use Rattle.names.specs.Lookups.{index_of}
@@ -63,11 +64,11 @@ abbrev pub second_number : List (List ℕ) → Cursor → Outcome (Unit {0}) (Op
 second_number ns c = perhaps (name_of (head c)) (ok None c tt) (λ _. then (atom_number ns c) (λ i c₁ _. ok (Some i) c₁ tt))
 
 -- the number of a tuple of n atoms in all, if its length fits the arity
-abbrev pub numbered : Arity → ℕ → ℕ → Option ℕ → ℕ → Result ℕ Fault
-numbered One n x None p = Ok x
-numbered One n x (Some y) p = Err (ArityMismatch p)
-numbered Two n x None p = Err (ArityMismatch p)
-numbered Two n x (Some y) p = Ok (x * n + y)
+abbrev pub numbered : Arity → ℕ → ℕ → Option ℕ → Option ℕ
+numbered One n x None = Some x
+numbered One n x (Some y) = None
+numbered Two n x None = None
+numbered Two n x (Some y) = Some (x * n + y)
 
 -- "(" one or two atoms ")"
 abbrev pub tuple : List (List ℕ) → Arity → Cursor → Listed → Outcome Listed (Unit {0})
@@ -76,7 +77,7 @@ tuple ns a c s =
     then (atom_number ns c₁) (λ x c₂ _.
     then (second_number ns c₂) (λ y c₃ _.
     take mark.CloseParen c₃ (λ _ c₄.
-    check (numbered a (length ns) x y p) c₄ (λ t. ok tt c₄ (noted t p s))))))
+    check (ok_or (numbered a (length ns) x y) (ArityMismatch p)) c₄ (λ t. ok tt c₄ (noted t p s))))))
 
 -- any number of tuples, at most n
 unfoldable pub tuples : ℕ → List (List ℕ) → Arity → Cursor → Listed → Outcome Listed (Unit {0})

@@ -7,7 +7,7 @@ ghost use Rattle.declaring.specs.Known.{known, framed_told};
 ghost use Rattle.declaring.specs.Declaring.{atom, further_atoms, atoms, mutability_of, arity as arity_of, bounds, relation as relation_of, relations as relations_of, declarations, horizon};
 ghost use Rattle.declaring.specs.Readers.{answer, from};
 
-use super::known::{arity_given, declare_atom, declare_relation, nameable_at, with_horizon};
+use super::known::{arity_given, declare_atom, declare_relation, nameable, with_horizon};
 use super::reader::Reader;
 use super::sets::MOST_TEXT;
 use faults::Fault;
@@ -21,10 +21,7 @@ pub fn read_horizon(tokens: &mut Tokens<'_>, declared: Declarations) -> Result<S
 {
     tokens.expect(Mark::Horizon)?;
     let place = tokens.place();
-    let Some(number) = tokens.number() else {
-        return Err(tokens.refuse());
-    };
-    tokens.advance();
+    let number = tokens.take(tokens.number())?;
     let signature = with_horizon(declared, number, place)?;
     tokens.expect(Mark::Semicolon)?;
     Ok(signature)
@@ -68,12 +65,8 @@ impl<'a> Reader<'a> {
     fn atom(&mut self) -> Result<(), Fault>
         ensures { answer result self.new ≡ from self.old atom }
     {
-        let place = self.tokens.place();
-        let Some(name) = self.tokens.name() else {
-            return Err(self.tokens.refuse());
-        };
-        self.tokens.advance();
-        declare_atom(&mut self.declared, name, place)
+        let placed = self.tokens.take_name()?;
+        declare_atom(&mut self.declared, placed)
     }
 
     // Reads the relations.
@@ -95,15 +88,11 @@ impl<'a> Reader<'a> {
     fn relation(&mut self, mutability: Mutability) -> Result<(), Fault>
         ensures { answer result self.new ≡ from self.old (relation_of mutability) }
     {
-        let place = self.tokens.place();
-        let Some(name) = self.tokens.name() else {
-            return Err(self.tokens.refuse());
-        };
-        self.tokens.advance();
-        nameable_at(&self.declared, name, place)?;
+        let placed = self.tokens.take_name()?;
+        nameable(&self.declared, placed)?;
         self.tokens.expect(Mark::Colon)?;
         let arity = read_arity(&mut self.tokens)?;
-        self.bounds(mutability, name, arity)
+        self.bounds(mutability, placed.name, arity)
     }
 
     // Reads the bounds of a relation, and declares it.
@@ -142,9 +131,6 @@ fn read_arity(tokens: &mut Tokens<'_>) -> Result<Arity, Fault>
     ensures { told result (cursor tokens.new) tt ≡ arity_of (cursor tokens.old) }
 {
     let place = tokens.place();
-    let Some(number) = tokens.number() else {
-        return Err(tokens.refuse());
-    };
-    tokens.advance();
+    let number = tokens.take(tokens.number())?;
     arity_given(number, place)
 }

@@ -1,43 +1,47 @@
 ghost use Rattle.std.specs.Prelude.{◌≡◌, Ok, Err, MatchResult};
 ghost use Rattle.names.specs.Names.{spelling};
 ghost use Rattle.tokens.specs.Outcomes.{changes};
-ghost use Rattle.declaring.specs.Known.{known, framed, unknown, atomed, nameable, related, arity_given, horizon_given};
+ghost use Rattle.declaring.specs.Known.{known, framed, unknown, atomed, nameable as nameable_of, related, arity_given, horizon_given};
 ghost use Rattle.relations.specs.Relations.{declared_of};
 
 use faults::Fault;
-use names::Name;
 use relations::{Arity, Declarations, MOST_RELATIONS, Relation, Signature, Unfit};
+use tokens::PlacedName;
 
-// Whether a name that stands at a place is new: that of no atom and of no relation.
+// Whether a name is new: that of no atom and of no relation.
 #[tactic(auto, unfolding(crate::specs::Known::known))]
-fn unknown(declared: &Declarations, name: Name, place: usize) -> Result<(), Fault>
-    ensures { result ≡ unknown (spelling name) place (known declared.now) }
+fn unknown(declared: &Declarations, placed: PlacedName) -> Result<(), Fault>
+    ensures { result ≡ unknown (spelling placed.name) placed.place (known declared.now) }
 {
+    let PlacedName { name, place } = placed;
     if declared.declares(name) {
         return Err(Fault::NameKnown { place });
     }
     Ok(())
 }
 
-// Declares an atom, whose name stands at a place.
+// Declares an atom.
 #[tactic(auto, unfolding(crate::specs::Known::known, crate::specs::Known::atomed))]
-pub fn declare_atom(declared: &mut Declarations, name: Name, place: usize) -> Result<(), Fault>
-    ensures { changes result (known declared.new) ≡ atomed (spelling name) place (known declared.old) }
+pub fn declare_atom(declared: &mut Declarations, placed: PlacedName) -> Result<(), Fault>
+    ensures { changes result (known declared.new) ≡ atomed (spelling placed.name) placed.place (known declared.old) }
 {
-    unknown(declared, name, place)?;
+    unknown(declared, placed)?;
+    let PlacedName { name, place } = placed;
     declared
         .add_atom(name)
         .map_err(|_| Fault::OverLimit { place })
 }
 
-// Whether a relation may be declared with a name that stands at a place.
+// Whether a relation may be declared with a name.
 #[tactic(auto, unfolding(crate::specs::Known::known, crate::specs::Known::nameable))]
-pub fn nameable_at(declared: &Declarations, name: Name, place: usize) -> Result<(), Fault>
-    ensures { result ≡ nameable (spelling name) place (known declared.now) }
+pub fn nameable(declared: &Declarations, placed: PlacedName) -> Result<(), Fault>
+    ensures { result ≡ nameable_of (spelling placed.name) placed.place (known declared.now) }
 {
-    unknown(declared, name, place)?;
+    unknown(declared, placed)?;
     if declared.relation_count() >= MOST_RELATIONS {
-        return Err(Fault::OverLimit { place });
+        return Err(Fault::OverLimit {
+            place: placed.place,
+        });
     }
     Ok(())
 }

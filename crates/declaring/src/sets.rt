@@ -8,9 +8,9 @@ ghost use Rattle.declaring.specs.Sets.{listed, atom_named, atom_number, second_n
 use super::reader::Reader;
 use super::tuples::Tuples;
 use faults::Fault;
-use names::{Name, lookup};
+use names::lookup;
 use relations::{Arity, Declarations};
-use tokens::Mark;
+use tokens::{Mark, PlacedName};
 
 // The most bytes of a text, so more than it has tuples.
 pub const MOST_TEXT: usize = 8192;
@@ -52,7 +52,9 @@ impl<'a> Reader<'a> {
         let first = self.number()?;
         let second = self.second_number()?;
         self.tokens.expect(Mark::CloseParen)?;
-        let tuple = number(arity, self.declared.atom_count(), first, second, place)?;
+        let tuple = number(arity, self.declared.atom_count(), first, second).ok_or(
+            Fault::ArityMismatch { place },
+        )?;
         tuples.note(tuple, place);
         Ok(())
     }
@@ -63,12 +65,8 @@ impl<'a> Reader<'a> {
         ensures small { IfOk result (λ i. i < 8) }
         ensures kept { self.new.declared ≡ self.old.declared }
     {
-        let place = self.tokens.place();
-        let Some(name) = self.tokens.name() else {
-            return Err(self.tokens.refuse());
-        };
-        self.tokens.advance();
-        atom_named(&self.declared, name, place)
+        let placed = self.tokens.take_name()?;
+        atom_named(&self.declared, placed)
     }
 
     // Reads a second atom, if there is one.
@@ -86,29 +84,24 @@ impl<'a> Reader<'a> {
 
 // The number of the atom with a name.
 #[tactic(auto, unfolding(crate::specs::Sets::atom_named))]
-fn atom_named(declared: &Declarations, name: Name, place: usize) -> Result<usize, Fault>
-    ensures value { result ≡ atom_named (spelling name) (atoms_of declared.now) place }
+fn atom_named(declared: &Declarations, placed: PlacedName) -> Result<usize, Fault>
+    ensures value { result ≡ atom_named (spelling placed.name) (atoms_of declared.now) placed.place }
     ensures small { IfOk result (λ i. i < 8) }
 {
+    let PlacedName { name, place } = placed;
     lookup(declared.atoms(), name.as_bytes()).ok_or(Fault::NameUnknown { place })
 }
 
 // The number of a tuple, if its length fits the arity.
-fn number(
-    arity: Arity,
-    atoms: usize,
-    first: usize,
-    second: Option<usize>,
-    place: usize,
-) -> Result<usize, Fault>
+fn number(arity: Arity, atoms: usize, first: usize, second: Option<usize>) -> Option<usize>
     requires atoms { atoms ≤ 8 }
     requires first { first < 8 }
     requires second { IfSome second (λ i. i < 8) }
-    ensures { result ≡ numbered arity atoms first second place }
+    ensures { result ≡ numbered arity atoms first second }
 {
     match (arity, second) {
-        (Arity::One, None) => Ok(first),
-        (Arity::Two, Some(second)) => Ok(first * atoms + second),
-        _ => Err(Fault::ArityMismatch { place }),
+        (Arity::One, None) => Some(first),
+        (Arity::Two, Some(second)) => Some(first * atoms + second),
+        _ => None,
     }
 }

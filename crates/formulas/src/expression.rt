@@ -12,10 +12,9 @@ use super::sketch::{Bracket, close, open};
 use super::start::{Head, head_of, operator_of};
 use super::wish::{Wish, Wishes, ask};
 use faults::Fault;
-use names::Name;
 use problem::{Kind, MOST_PARTS, Node, Turn};
 use stack::Stack;
-use tokens::Mark;
+use tokens::{Mark, PlacedName};
 
 impl Parser<'_> {
     // Reads an expression of the arity that is wished for.
@@ -37,13 +36,12 @@ impl Parser<'_> {
     pub fn after_name(
         &mut self,
         brackets: &mut Stack<'_, Bracket>,
-        name: Name,
-        place: usize,
+        placed: PlacedName,
     ) -> Result<usize, Fault>
-        ensures { answer result self.new brackets.new ≡ from self.old brackets.old (after_name (spelling name) place) }
+        ensures { answer result self.new brackets.new ≡ from self.old brackets.old (after_name (spelling placed.name) placed.place) }
     {
-        let part = self.sketch.named(name, place, Wishes::of_whole(None))?;
-        self.primes(place, None, part)
+        let part = self.sketch.named(placed, Wishes::of_whole(None))?;
+        self.primes(placed.place, None, part)
     }
 
     // Reads the ' signs after an expression whose first token is at a place.
@@ -87,14 +85,12 @@ impl Parser<'_> {
         ensures { answer result self.new brackets.new ≡ from self.old brackets.old (begun (primary_of levels) wishes.under wishes.whole) }
     {
         let place = self.tokens.place();
-        let Some(head) = head_of(&self.tokens) else {
-            return Err(self.tokens.refuse());
-        };
-        self.tokens.advance();
+        let seen = head_of(&self.tokens);
+        let head = self.tokens.take(seen)?;
         match head {
             Head::Name(name) => {
                 let wishes = self.at_end(wishes);
-                self.sketch.named(name, place, wishes)
+                self.sketch.named(PlacedName { name, place }, wishes)
             }
             Head::Constant(constant) => {
                 let wishes = self.at_end(wishes);
@@ -140,11 +136,9 @@ impl Parser<'_> {
     {
         open(brackets, place)?;
         let left = self.expression(brackets, levels, None)?;
-        let Some(operator) = operator_of(&self.tokens) else {
-            return Err(self.tokens.refuse());
-        };
         let at = self.tokens.place();
-        self.tokens.advance();
+        let seen = operator_of(&self.tokens);
+        let operator = self.tokens.take(seen)?;
         self.sketch.count(at)?;
         let right = self.expression(brackets, levels, None)?;
         self.combined(brackets, Node::Combined(operator, left, right), wishes)

@@ -9,18 +9,16 @@ use super::sketch::{Bracket, close, open};
 use super::start::{Start, comparison_of, infix_of, start_of};
 use super::wish::Wish;
 use faults::Fault;
-use names::Name;
 use problem::{Kind, Node, Prefix, Quantifier, Test};
 use stack::Stack;
-use tokens::Mark;
+use tokens::{Mark, PlacedName};
 
-// How a quantifier begins: its word, and the name of its variable, each with its place.
+// How a quantifier begins: its word with its place, and its variable.
 #[derive(Clone, Copy)]
 struct Opening {
     quantifier: Quantifier,
     place: usize,
-    name: Name,
-    at: usize,
+    variable: PlacedName,
 }
 
 impl Parser<'_> {
@@ -102,11 +100,9 @@ impl Parser<'_> {
     {
         open(brackets, place)?;
         let left = self.formula(brackets, levels)?;
-        let Some(infix) = infix_of(&self.tokens) else {
-            return Err(self.tokens.refuse());
-        };
         let at = self.tokens.place();
-        self.tokens.advance();
+        let seen = infix_of(&self.tokens);
+        let infix = self.tokens.take(seen)?;
         self.sketch.count(at)?;
         let right = self.formula(brackets, levels)?;
         self.close_joined(brackets, Node::Joined(infix, left, right))
@@ -148,11 +144,9 @@ impl Parser<'_> {
     {
         let place = self.tokens.place();
         let left = self.expression(brackets, levels, None)?;
-        let Some(comparison) = comparison_of(&self.tokens) else {
-            return Err(self.tokens.refuse());
-        };
         let at = self.tokens.place();
-        self.tokens.advance();
+        let seen = comparison_of(&self.tokens);
+        let comparison = self.tokens.take(seen)?;
         self.sketch.count(at)?;
         let arity = self.sketch.arity(left);
         let right = self.expression(brackets, levels, Some(Wish { arity, place }))?;
@@ -173,21 +167,12 @@ impl Parser<'_> {
     ) -> Result<usize, Fault>
         ensures { answer result self.new brackets.new ≡ from self.old brackets.old (all_of (expression_of levels) (formula_of levels) place) }
     {
-        let at = self.tokens.place();
-        let Some(name) = self.tokens.name() else {
-            return Err(self.tokens.refuse());
+        let opening = Opening {
+            quantifier: Quantifier::All,
+            place,
+            variable: self.tokens.take_name()?,
         };
-        self.tokens.advance();
-        self.domain(
-            brackets,
-            levels,
-            Opening {
-                quantifier: Quantifier::All,
-                place,
-                name,
-                at,
-            },
-        )
+        self.domain(brackets, levels, opening)
     }
 
     // Reads a quantifier or an expression, after the word.
@@ -200,21 +185,15 @@ impl Parser<'_> {
     ) -> Result<usize, Fault>
         ensures { answer result self.new brackets.new ≡ from self.old brackets.old (some_of (expression_of levels) (formula_of levels) after_name place) }
     {
-        let at = self.tokens.place();
-        let Some(name) = self.tokens.name() else {
+        if self.tokens.name().is_none() {
             return self.tested(brackets, levels, Test::Some, place);
+        }
+        let opening = Opening {
+            quantifier: Quantifier::Some,
+            place,
+            variable: self.tokens.take_name()?,
         };
-        self.tokens.advance();
-        self.some_named(
-            brackets,
-            levels,
-            Opening {
-                quantifier: Quantifier::Some,
-                place,
-                name,
-                at,
-            },
-        )
+        self.some_named(brackets, levels, opening)
     }
 
     // Reads on after the name that follows "some".
@@ -225,12 +204,12 @@ impl Parser<'_> {
         levels: usize,
         opening: Opening,
     ) -> Result<usize, Fault>
-        ensures { answer result self.new brackets.new ≡ from self.old brackets.old (some_named (expression_of levels) (formula_of levels) after_name opening.quantifier opening.place (spelling opening.name) opening.at) }
+        ensures { answer result self.new brackets.new ≡ from self.old brackets.old (some_named (expression_of levels) (formula_of levels) after_name opening.quantifier opening.place (spelling opening.variable.name) opening.variable.place) }
     {
         if self.tokens.is(Mark::Colon) {
             return self.domain(brackets, levels, opening);
         }
-        let part = self.after_name(brackets, opening.name, opening.at)?;
+        let part = self.after_name(brackets, opening.variable)?;
         self.sketch.put(Kind::Formula, Node::Tested(Test::Some, part), opening.place)
     }
 
@@ -242,9 +221,9 @@ impl Parser<'_> {
         levels: usize,
         opening: Opening,
     ) -> Result<usize, Fault>
-        ensures { answer result self.new brackets.new ≡ from self.old brackets.old (domain_of (expression_of levels) (formula_of levels) opening.quantifier opening.place (spelling opening.name) opening.at) }
+        ensures { answer result self.new brackets.new ≡ from self.old brackets.old (domain_of (expression_of levels) (formula_of levels) opening.quantifier opening.place (spelling opening.variable.name) opening.variable.place) }
     {
-        self.sketch.bindable(opening.name, opening.at)?;
+        self.sketch.bindable(opening.variable)?;
         self.tokens.expect(Mark::Colon)?;
         let place = self.tokens.place();
         let domain = self.expression(brackets, levels, Some(Wish { arity: 1, place }))?;
@@ -261,9 +240,9 @@ impl Parser<'_> {
         opening: Opening,
         domain: usize,
     ) -> Result<usize, Fault>
-        ensures { answer result self.new brackets.new ≡ from self.old brackets.old (scope_of (formula_of levels) opening.quantifier opening.place (spelling opening.name) opening.at domain) }
+        ensures { answer result self.new brackets.new ≡ from self.old brackets.old (scope_of (formula_of levels) opening.quantifier opening.place (spelling opening.variable.name) opening.variable.place domain) }
     {
-        let variable = self.sketch.bind(opening.name, opening.at)?;
+        let variable = self.sketch.bind(opening.variable)?;
         let body = self.formula(brackets, levels)?;
         self.sketch.unbind();
         let node = Node::Quantified {

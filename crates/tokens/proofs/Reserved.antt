@@ -1,24 +1,21 @@
--- The reserved word at an index of the list.
-use Rattle.std.proofs.Common.{◌≡◌, ℕ, List, map, Option, Bor, ap, ◌∙◌, arith}
-use Rattle.std.specs.List.{slice_get}
-use Rattle.std.specs.Slice.{IsItemAt}
-use Rattle.std.proofs.lemmas.Grind.{common_steps}
-use Rattle.std.proofs.lemmas.Option.{gets}
-use Rattle.std.specs.Option.{option_copied}
-use Rattle.std.specs.declared.option.Option.TheVariants as option
-use Rattle.names.specs.Lookups.{index_of}
+-- The reserved word that some bytes spell, as the first of the list that does.
+use Rattle.std.proofs.Common.{◌≡◌, ℕ, Bool, ltb, List, length, Some, None, Option, refl, ap, ◌∙◌}
+use Rattle.std.specs.Str.{bytes_eq}
+use Rattle.std.specs.List.{find, position, position_or_len, slice_get}
+use Rattle.std.proofs.lemmas.Bool.{cond_both, ltb-false}
+use Rattle.std.proofs.lemmas.Option.{slice_get_past}
+use Rattle.std.proofs.lemmas.List.Folds.{find_at}
+use Rattle.names.proofs.Finding.{index_map}
 use Rattle.tokens.specs.declared.token.Word.{Word}
 use Rattle.tokens.specs.Classes.{spelt, reserved}
 use Rattle.tokens.specs.Lexing.{word_of, at_index}
 
--- what a read at an index copies
-pub copied_at : {X : Type 0} (xs : List X) (i : ℕ) (o : Option (Bor X)) (r : Option X) → IsItemAt xs i o → r ≡ option_copied o → r ≡ slice_get xs i
-copied_at xs i o r h e = grind (arith, common_steps, gets)
+-- the first word that passes stands at the first index at which one does
+at_first : (p : Word → Bool) → find p reserved ≡ at_index (position p reserved)
+at_first p =
+    let n = position_or_len p reserved in
+    find_at p reserved ∙ cond_both (ltb n (length reserved)) (Some n) None (λ o. slice_get reserved n ≡ at_index o) (λ _. refl) (λ e. slice_get_past reserved n (ltb-false n (length reserved) e))
 
-pub word_found : (s : List ℕ) (i : ℕ) (w : Option Word) → option.Some i ≡ index_of s (map spelt reserved) → w ≡ slice_get reserved i → w ≡ word_of s
+pub first_word : (s : List ℕ) (w : Option Word) → w ≡ find (λ x. bytes_eq (spelt x) s) reserved → w ≡ word_of s
 unfolding word_of
-word_found s i w e h = h ∙ ap at_index e
-
-pub word_none : (s : List ℕ) → option.None ≡ index_of s (map spelt reserved) → option.None ≡ word_of s
-unfolding word_of
-word_none s e = ap at_index e
+first_word s w e = e ∙ at_first (λ x. bytes_eq (spelt x) s) ∙ ap at_index (index_map s spelt reserved)

@@ -7,7 +7,7 @@ ghost use Rattle.tokens.specs.Digits.{digits, digits_in};
 
 use super::token::{Sign, Spot, Token, Word};
 use faults::Fault;
-use names::{MOST_BYTES, Named, lookup};
+use names::{MOST_BYTES, Named};
 use problem::{Constant, Infix, Operator, Prefix, Turn};
 
 // The most digits of a number.
@@ -109,11 +109,10 @@ fn sign_of(b: u8) -> Option<Sign>
 }
 
 // The reserved word that some bytes spell.
-#[tactic(auto, using(crate::proofs::Reserved::word_found, crate::proofs::Reserved::word_none))]
 fn word_of(s: &[u8]) -> Option<Word>
     ensures { result ≡ word_of s.now }
 {
-    RESERVED.get(lookup(&RESERVED, s)?).copied()
+    RESERVED.iter().find(|word| word.name() == s).copied()
 }
 
 // How many separators stand at the front.

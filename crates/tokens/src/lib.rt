@@ -7,5 +7,5 @@ mod token;
 mod tokens;
 
 pub use mark::Mark;
-pub use token::{Sign, Spot, Token, Word};
+pub use token::{PlacedName, Sign, Spot, Token, Word};
 pub use tokens::Tokens;

@@ -1,3 +1,4 @@
+use names::Name;
 use problem::{Constant, Infix, Operator, Prefix, Turn};
 
 // A reserved word.
@@ -48,5 +49,12 @@ pub enum Token<'a> {
 #[derive(Clone, Copy)]
 pub struct Spot<'a> {
     pub token: Token<'a>,
+    pub place: usize,
+}
+
+// A name and where it stands.
+#[derive(Clone, Copy)]
+pub struct PlacedName {
+    pub name: Name,
     pub place: usize,
 }

@@ -11,6 +11,7 @@ use faults::Fault;
 use names::{Name, Named, lookup};
 use problem::{Constant, Draft, Kind, MOST_PARTS, MOST_VARIABLES, Misfit, Node};
 use std::alloc::{AllocError, Global};
+use tokens::PlacedName;
 
 impl Named for Variable {
     ghost named = { λ v. spelling v.name };
@@ -96,9 +97,10 @@ impl Sketch {
     }
 
     // What a name in an expression stands for.
-    fn resolve(&self, name: Name, place: usize) -> Result<Meant, Fault>
-        ensures { result ≡ resolved (spelling name) place (body self.now) }
+    fn resolve(&self, placed: PlacedName) -> Result<Meant, Fault>
+        ensures { result ≡ resolved (spelling placed.name) placed.place (body self.now) }
     {
+        let PlacedName { name, place } = placed;
         if let Some(variable) = lookup(self.scope.as_slice(), name.as_bytes()) {
             return Ok(Meant {
                 node: Node::Variable(variable),
@@ -124,11 +126,11 @@ impl Sketch {
     }
 
     // Puts what a name stands for.
-    pub fn named(&mut self, name: Name, place: usize, wishes: Wishes) -> Result<usize, Fault>
-        ensures { changes result (body self.new) ≡ naming (spelling name) place wishes.under wishes.whole (body self.old) }
+    pub fn named(&mut self, placed: PlacedName, wishes: Wishes) -> Result<usize, Fault>
+        ensures { changes result (body self.new) ≡ naming (spelling placed.name) placed.place wishes.under wishes.whole (body self.old) }
     {
-        let meant = self.resolve(name, place)?;
-        self.leaf(meant, place, wishes)
+        let meant = self.resolve(placed)?;
+        self.leaf(meant, placed.place, wishes)
     }
 
     // Puts a constant.
@@ -158,16 +160,17 @@ impl Sketch {
 
     // Whether a name may be bound: it is not known, and there may be one variable more.
     #[tactic(auto, unfolding(crate::specs::Bodies::body, crate::specs::Outcomes::bindable))]
-    pub fn bindable(&self, name: Name, place: usize) -> Result<(), Fault>
-        ensures { result ≡ bindable (spelling name) place (body self.now) }
+    pub fn bindable(&self, placed: PlacedName) -> Result<(), Fault>
+        ensures { result ≡ bindable (spelling placed.name) placed.place (body self.now) }
     {
-        judge_name(self.knows(name), self.scope.len(), place)
+        judge_name(self.knows(placed.name), self.scope.len(), placed.place)
     }
 
     // Brings a variable into scope, and answers its number.
-    pub fn bind(&mut self, name: Name, place: usize) -> Result<usize, Fault>
-        ensures { changes result (body self.new) ≡ binding_of (spelling name) place (body self.old) }
+    pub fn bind(&mut self, placed: PlacedName) -> Result<usize, Fault>
+        ensures { changes result (body self.new) ≡ binding_of (spelling placed.name) placed.place (body self.old) }
     {
+        let PlacedName { name, place } = placed;
         let variable = self.scope.len();
         if !may_bind(variable) {
             return Err(Fault::OverLimit { place });

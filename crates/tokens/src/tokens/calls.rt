@@ -1,5 +1,5 @@
-ghost use Rattle.std.specs.Prelude.{◌≡◌, ◌+◌, ◌<◌, ◌≤◌, [], length, IfOk, IfSome, ◌≢◌};
-ghost use Rattle.std.specs.Option.{option_map};
+ghost use Rattle.std.specs.Prelude.{◌≡◌, ◌+◌, ◌<◌, ◌≤◌, [], length, Some, None, IfOk, IfErr, IfSome, MatchResult, ◌≢◌};
+ghost use Rattle.std.specs.Option.{option_map, ok_or};
 ghost use Rattle.names.specs.Names.{spelling};
 ghost use Rattle.tokens.specs.Items.{items, ahead, seen, place_of, refusal, token_of, name_of, number_of, is_mark, mark_of as mark_of_item, bytes_left, view, mark_in};
 ghost use Rattle.tokens.specs.Cursors.{cursor, cursor_of, head, step, expected};
@@ -8,7 +8,7 @@ ghost use Rattle.tokens.specs.Lexing.{value_of};
 
 use super::super::lexer::next_token;
 use super::super::mark::Mark;
-use super::super::token::{Sign, Spot, Token, Word};
+use super::super::token::{PlacedName, Sign, Spot, Token, Word};
 use super::Tokens;
 use faults::Fault;
 use names::Name;
@@ -103,6 +103,34 @@ impl<'a> Tokens<'a> {
         };
         self.advance();
         fault
+    }
+
+    // Takes the next token and hands on what was seen in it; where nothing was, refuses it.
+    pub fn take<T>(&mut self, seen: Option<T>) -> Result<T, Fault>
+        ensures value { result ≡ ok_or seen (refusal (head (cursor self.old))) }
+        ensures rest { cursor self.new ≡ step (cursor self.old) }
+        ensures shorter { (ahead self.old ≢ []) → bytes_left self.new < bytes_left self.old }
+    {
+        match seen {
+            Some(kind) => {
+                self.advance();
+                Ok(kind)
+            }
+            None => Err(self.refuse()),
+        }
+    }
+
+    // Takes the next token, which has to be a name, and answers the name with its place.
+    pub fn take_name(&mut self) -> Result<PlacedName, Fault>
+        ensures name { MatchResult result (λ n. Some (spelling n.name) ≡ name_of (head (cursor self.old))) (λ _. None ≡ name_of (head (cursor self.old))) }
+        ensures place { IfOk result (λ n. n.place ≡ place_of (head (cursor self.old))) }
+        ensures fault { IfErr result (λ f. f ≡ refusal (head (cursor self.old))) }
+        ensures rest { cursor self.new ≡ step (cursor self.old) }
+        ensures shorter { (ahead self.old ≢ []) → bytes_left self.new < bytes_left self.old }
+    {
+        let place = self.place();
+        let name = self.take(self.name())?;
+        Ok(PlacedName { name, place })
     }
 
     // Takes the next token, which has to be that mark, and answers its place.

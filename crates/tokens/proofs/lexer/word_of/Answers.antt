@@ -1,8 +1,14 @@
-use Rattle.tokens.specs.Classes.{reserved}
-use Rattle.tokens.proofs.Reserved.{word_found, copied_at}
+use Rattle.std.proofs.Common.{rules, ◌∙◌}
+use Rattle.std.specs.Str.{bytes_eq}
+use Rattle.std.proofs.lemmas.Iterator.{YieldsList-from_slice}
+use Rattle.std.proofs.lemmas.Iterator.Search.{find_from_yields_List}
+use borrow.Author.Tests.{tests}
+use Rattle.tokens.specs.Classes.{spelt, reserved}
+use Rattle.tokens.proofs.Reserved.{first_word}
 use Rattle.tokens.proofs.lexer.word_of.Goals as goal
 
 pub returns : goal.returns
 returns c =
-    word_found c.args.s.now c.in_ok-lookup.field-0 c.copied.result c.in_ok-lookup.ensures.value
-    (copied_at reserved c.in_ok-lookup.field-0 c.get.result c.copied.result c.get.ensures.lookup c.copied.ensures)
+    let s = c.args.s.now in
+    first_word s c.copied.result
+    (c.copied.ensures ∙ find_from_yields_List (λ w. bytes_eq (spelt w) s) _ _ _ c.find.ensures.ran (YieldsList-from_slice reserved (search rules)) (λ x b q k. search (rules, tests)))
