@@ -110,7 +110,8 @@ impl Evaluator<'_> {
         Row::spread(&values, self.setting.table.shape(), self.setting.window)
     }
 
-    // What a function gives for each state, and blanks beyond the last.
+    // What a function gives for each state, and blanks beyond the last. Those that spread it over the instants do so themselves, in a
+    // line: a shared function would have to say of the row what the closure says of a state, in more lines than the three have.
     pub(crate) fn in_each_state<T: Copy, F: Fn(State) -> T>(
         &self,
         blank: T,
@@ -119,9 +120,9 @@ impl Evaluator<'_> {
         requires { F.IsAlwaysCallable of_state }
         ensures { (s : ℕ) (d : T) → s < self.now.setting.table.now.shape.states → F.post of_state (record { 0 = s }) (slice_index_or result s d) }
     {
-        // By index: in a loop over `iter_mut().enumerate()` no invariant can name the array that is written, and `array::from_fn`
-        // would test each of the 17 states. Tuples and rows fill their own: one fill for all would be public, and ask its callers
-        // for a closure that may be called.
+        // By index: in a loop over `iter_mut().enumerate()` no invariant can name the array that is written, and the closure of
+        // `array::from_fn` would need a test of its own for what lies beyond. Tuples and rows fill their own: one fill for all would be
+        // public, and ask its callers for a closure that may be called.
         let mut values = [blank; MOST_STATES];
         'states: for s in 0..self.setting.table.shape().states() {
             values[s] = of_state(State(s));
