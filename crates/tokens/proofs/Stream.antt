@@ -86,8 +86,8 @@ unfolding items
 items_nil p = refl
 
 -- the token after n separators
-pub after_space : (s rest : List ℕ) (p n : ℕ) → n ≡ prefix_len space s → rest ≡ drop n s → token rest (p + n) ≡ lexed s p
-after_space s rest p n h e = ap (λ x. token x (p + n)) e ∙ ap (λ m. token (drop m s) (p + m)) h
+pub after_space : (s rest : List ℕ) (p q n : ℕ) → n ≡ prefix_len space s → rest ≡ drop n s → q ≡ p + n → token rest q ≡ lexed s p
+after_space s rest p q n h e f = ap (token rest) f ∙ ap (λ x. token x (p + n)) e ∙ ap (λ m. token (drop m s) (p + m)) h
 
 count : (n : ℕ) (c : Lexed) → length (more n c) ≤ wants c
 count n done = omega arith

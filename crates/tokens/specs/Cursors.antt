@@ -1,7 +1,8 @@
 -- What is left of a text's tokens, and how one goes on in it. Assumes nothing.
-use Rattle.std.specs.Prelude.{ℕ, cond, List, length, drop, Ok, Err, Result}
+use Rattle.std.specs.Prelude.{ℕ, ◌+◌, cond, List, length, drop, Ok, Err, Result}
 use Rattle.faults.specs.declared.Fault.{Fault}
 use Rattle.tokens.specs.declared.mark.Mark.{Mark}
+use Rattle.tokens.specs.declared.rest.Rest.{Rest}
 use Rattle.tokens.specs.declared.tokens.Tokens.{Tokens}
 use Rattle.tokens.specs.Items.{Item, items, ahead, first, place_of, refusal, is_mark}
 
@@ -14,8 +15,12 @@ pub record Cursor : Type 0 where
 unfoldable pub cursor_of : List ℕ → Cursor
 cursor_of text = record { items = items text 0; len = length text }
 
+-- the place at which a text ends of which that is left
+abbrev pub ends_at : Rest → ℕ
+ends_at r = r.place + length r.bytes.now
+
 unfoldable pub cursor : Tokens → Cursor
-cursor t = record { items = ahead t; len = t.len }
+cursor t = record { items = ahead t; len = ends_at t.rest }
 
 -- the next item; at the end of the text its end
 unfoldable pub head : Cursor → Item

@@ -53,7 +53,7 @@ ahead_of option.None us = []
 
 -- the items that a reader has not taken yet
 unfoldable pub ahead : Tokens → List Item
-ahead t = ahead_of t.next (items t.rest.now t.place)
+ahead t = ahead_of t.next (items t.rest.bytes.now t.rest.place)
 
 abbrev pub left_of : Option (Result Spot Fault) → ℕ → ℕ
 left_of (option.Some s) n = suc n
@@ -61,7 +61,7 @@ left_of option.None n = 0
 
 -- how many bytes are not taken yet, the next token counted as one
 unfoldable pub bytes_left : Tokens → ℕ
-bytes_left t = left_of t.next (length t.rest.now)
+bytes_left t = left_of t.next (length t.rest.bytes.now)
 
 -- the first of the items; at the end of a text of that length, its end
 abbrev pub first : ℕ → List Item → Item

@@ -1,10 +1,12 @@
-ghost use Rattle.std.specs.Prelude.{◌≡◌, ◌+◌, ◌<◌, ◌≤◌, length, cond, nat_le, IfOk};
+ghost use Rattle.std.specs.Prelude.{◌≡◌, ◌<◌, ◌≤◌, length, cond, nat_le, IfOk};
 ghost use Rattle.std.specs.List.{prefix_len};
 ghost use Rattle.tokens.specs.Classes.{space, alnum, digit, sign_of, spelt};
 ghost use Rattle.tokens.specs.Lexing.{token, lettered, numbered, sign_at, word_of};
 ghost use Rattle.tokens.specs.Items.{items, ahead_of, left_of, cut_at};
+ghost use Rattle.tokens.specs.Cursors.{ends_at};
 ghost use Rattle.tokens.specs.Digits.{digits, digits_in};
 
+use super::rest::Rest;
 use super::token::{Sign, Spot, Token, Word};
 use faults::Fault;
 use names::{MOST_BYTES, Named};
@@ -13,12 +15,11 @@ use problem::{Constant, Infix, Operator, Prefix, Turn};
 // The most digits of a number.
 const MOST_DIGITS: usize = 3;
 
-// What was cut off the front of some bytes, and what is left with the place of that.
+// What was cut off the front of some bytes, and what is left.
 #[derive(Clone, Copy)]
 pub struct Cut<'a> {
     pub next: Option<Result<Spot<'a>, Fault>>,
-    pub rest: &'a [u8],
-    pub place: usize,
+    pub rest: Rest<'a>,
 }
 
 const RESERVED: [Word; 24] = [
@@ -152,13 +153,13 @@ fn few(n: usize, most: usize, place: usize) -> Result<usize, Fault>
 }
 
 // The name or the reserved word at the front of some bytes that begin with a letter, and how long it is.
-fn word_at<'a>(s: &'a [u8], place: usize) -> Result<(Token<'a>, usize), Fault>
-    ensures token { cut_at result s.now place ≡ lettered s.now place }
-    ensures inside { IfOk result (λ t. t.1 ≤ length s.now) }
+fn word_at<'a>(rest: Rest<'a>) -> Result<(Token<'a>, usize), Fault>
+    ensures token { cut_at result rest.entry.bytes.now rest.entry.place ≡ lettered rest.entry.bytes.now rest.entry.place }
+    ensures inside { IfOk result (λ t. t.1 ≤ length rest.entry.bytes.now) }
     ensures brief { IfOk result (λ t. digits t.0 ≤ 3) }
 {
-    let n = few(letters_and_digits(s), MOST_BYTES, place)?;
-    let name = &s[..n];
+    let n = few(letters_and_digits(rest.bytes), MOST_BYTES, rest.place)?;
+    let name = &rest.bytes[..n];
     match word_of(name) {
         Some(word) => Ok((Token::Word(word, name), n)),
         None => Ok((Token::Name(name), n)),
@@ -166,75 +167,66 @@ fn word_at<'a>(s: &'a [u8], place: usize) -> Result<(Token<'a>, usize), Fault>
 }
 
 // The number at the front of some bytes that begin with a digit, and how long it is.
-fn number_at<'a>(s: &'a [u8], place: usize) -> Result<(Token<'a>, usize), Fault>
-    ensures token { cut_at result s.now place ≡ numbered s.now place }
-    ensures inside { IfOk result (λ t. t.1 ≤ length s.now) }
+fn number_at<'a>(rest: Rest<'a>) -> Result<(Token<'a>, usize), Fault>
+    ensures token { cut_at result rest.entry.bytes.now rest.entry.place ≡ numbered rest.entry.bytes.now rest.entry.place }
+    ensures inside { IfOk result (λ t. t.1 ≤ length rest.entry.bytes.now) }
     ensures brief { IfOk result (λ t. digits t.0 ≤ 3) }
 {
-    let n = few(digits_alone(s), MOST_DIGITS, place)?;
-    Ok((Token::Number(&s[..n]), n))
+    let n = few(digits_alone(rest.bytes), MOST_DIGITS, rest.place)?;
+    Ok((Token::Number(&rest.bytes[..n]), n))
 }
 
 // The sign at the front, and how long it is.
-fn sign_at<'a>(s: &'a [u8], place: usize) -> Result<(Token<'a>, usize), Fault>
-    requires { 0 < length s.now }
-    ensures token { cut_at result s.now place ≡ sign_at s.now place }
-    ensures inside { IfOk result (λ t. t.1 ≤ length s.now) }
+fn sign_at<'a>(rest: Rest<'a>) -> Result<(Token<'a>, usize), Fault>
+    requires { 0 < length rest.bytes.now }
+    ensures token { cut_at result rest.entry.bytes.now rest.entry.place ≡ sign_at rest.entry.bytes.now rest.entry.place }
+    ensures inside { IfOk result (λ t. t.1 ≤ length rest.entry.bytes.now) }
     ensures brief { IfOk result (λ t. digits t.0 ≤ 3) }
 {
-    if let [b'-', b'>', ..] = s {
+    if let [b'-', b'>', ..] = rest.bytes {
         return Ok((Token::Sign(Sign::Operator(Operator::Product)), 2));
     }
-    let sign = sign_of(s[0]).ok_or(Fault::NoToken { place })?;
+    let sign = sign_of(rest.bytes[0]).ok_or(Fault::NoToken { place: rest.place })?;
     Ok((Token::Sign(sign), 1))
 }
 
 // The token at the front of some bytes, and how long it is.
-fn token_at<'a>(s: &'a [u8], place: usize) -> Result<(Token<'a>, usize), Fault>
-    requires { 0 < length s.now }
-    ensures token { cut_at result s.now place ≡ token s.now place }
-    ensures inside { IfOk result (λ t. t.1 ≤ length s.now) }
+fn token_at<'a>(rest: Rest<'a>) -> Result<(Token<'a>, usize), Fault>
+    requires { 0 < length rest.bytes.now }
+    ensures token { cut_at result rest.entry.bytes.now rest.entry.place ≡ token rest.entry.bytes.now rest.entry.place }
+    ensures inside { IfOk result (λ t. t.1 ≤ length rest.entry.bytes.now) }
     ensures brief { IfOk result (λ t. digits t.0 ≤ 3) }
 {
-    match s[0] as char {
-        'a'..='z' | 'A'..='Z' => word_at(s, place),
-        '0'..='9' => number_at(s, place),
-        _ => sign_at(s, place),
+    match rest.bytes[0] as char {
+        'a'..='z' | 'A'..='Z' => word_at(rest),
+        '0'..='9' => number_at(rest),
+        _ => sign_at(rest),
     }
 }
 
-// Skips the separators at the front of what is left of a text of that length, and cuts one token off.
-pub(crate) fn next_token<'a>(text: &'a [u8], place: usize, len: usize) -> Cut<'a>
-    requires { place + length text.now ≡ len }
-    ensures items { ahead_of result.next (items result.rest.now result.place) ≡ items text.now place }
-    ensures inside { result.place + length result.rest.now ≡ len }
-    ensures shorter { left_of result.next (length result.rest.now) ≤ length text.now }
+// Skips the separators at the front of what is left of a text, and cuts one token off.
+pub(crate) fn next_token<'a>(text: Rest<'a>) -> Cut<'a>
+    ensures items { ahead_of result.next (items result.rest.bytes.now result.rest.place) ≡ items text.entry.bytes.now text.entry.place }
+    ensures end { ends_at result.rest ≡ ends_at text.entry }
+    ensures shorter { left_of result.next (length result.rest.bytes.now) ≤ length text.entry.bytes.now }
     ensures brief { digits_in result.next ≤ 3 }
 {
-    let n = spaces(text);
-    let rest = &text[n..];
-    let start = place + n;
-    if rest.is_empty() {
-        return Cut {
-            next: None,
-            rest,
-            place: start,
-        };
+    let rest = text.after(spaces(text.bytes));
+    if rest.bytes.is_empty() {
+        return Cut { next: None, rest };
     }
-    match token_at(rest, start) {
+    match token_at(rest) {
         Ok((token, size)) => Cut {
             next: Some(Ok(Spot {
                 token,
-                place: start,
+                place: rest.place,
             })),
-            rest: &rest[size..],
-            place: start + size,
+            rest: rest.after(size),
         },
         // After a fault of the bytes there is nothing to read.
         Err(fault) => Cut {
             next: Some(Err(fault)),
-            rest: &[],
-            place: len,
+            rest: rest.after(rest.bytes.len()),
         },
     }
 }

@@ -3,6 +3,7 @@
 
 mod lexer;
 mod mark;
+mod rest;
 mod token;
 mod tokens;
 

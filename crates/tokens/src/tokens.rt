@@ -1,6 +1,7 @@
-ghost use Rattle.std.specs.Prelude.{◌≡◌, ◌+◌, ◌≤◌, length};
+ghost use Rattle.std.specs.Prelude.{◌≤◌};
 ghost use Rattle.tokens.specs.Digits.{digits_in};
 
+use super::rest::Rest;
 use super::token::Spot;
 use faults::Fault;
 
@@ -9,10 +10,7 @@ mod calls;
 // The tokens of a text that are not taken yet, the next one looked at; at the end there is none.
 #[derive(Drop)]
 pub struct Tokens<'a> {
-    rest: &'a [u8],
-    place: usize,
+    rest: Rest<'a>,
     next: Option<Result<Spot<'a>, Fault>>,
-    len: usize,
-    ghost inside: { place + length rest.now ≡ len },
     ghost brief: { digits_in next ≤ 3 },
 }

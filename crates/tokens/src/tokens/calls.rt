@@ -1,13 +1,14 @@
-ghost use Rattle.std.specs.Prelude.{◌≡◌, ◌+◌, ◌<◌, ◌≤◌, [], length, Some, None, IfOk, IfErr, IfSome, MatchResult, ◌≢◌};
+ghost use Rattle.std.specs.Prelude.{◌≡◌, ◌<◌, ◌≤◌, [], length, Some, None, IfOk, IfErr, IfSome, MatchResult, ◌≢◌};
 ghost use Rattle.std.specs.Option.{option_map, ok_or};
 ghost use Rattle.names.specs.Names.{spelling};
 ghost use Rattle.tokens.specs.Items.{items, ahead, seen, place_of, refusal, token_of, name_of, number_of, is_mark, mark_of as mark_of_item, bytes_left, view, mark_in};
-ghost use Rattle.tokens.specs.Cursors.{cursor, cursor_of, head, step, expected};
+ghost use Rattle.tokens.specs.Cursors.{ends_at, cursor, cursor_of, head, step, expected};
 ghost use Rattle.tokens.specs.Digits.{digits};
 ghost use Rattle.tokens.specs.Lexing.{value_of};
 
 use super::super::lexer::next_token;
 use super::super::mark::Mark;
+use super::super::rest::Rest;
 use super::super::token::{PlacedName, Sign, Spot, Token, Word};
 use super::Tokens;
 use faults::Fault;
@@ -19,7 +20,11 @@ impl<'a> Tokens<'a> {
     pub fn new(text: &'a [u8]) -> Tokens<'a>
         ensures { cursor result ≡ cursor_of text.now }
     {
-        tokens_from(text, 0, text.len())
+        let rest = Rest {
+            bytes: text,
+            place: 0,
+        };
+        tokens_from(rest)
     }
 
     // The next token, or the fault of the bytes there; at the end of the text its end.
@@ -30,7 +35,7 @@ impl<'a> Tokens<'a> {
     {
         self.next.unwrap_or(Ok(Spot {
             token: Token::End,
-            place: self.len,
+            place: self.rest.end(),
         }))
     }
 
@@ -88,7 +93,7 @@ impl<'a> Tokens<'a> {
         if self.next.is_none() {
             return;
         }
-        *self = tokens_from(self.rest, self.place, self.len);
+        *self = tokens_from(self.rest);
     }
 
     // Takes the next token, which cannot stand there, and says why.
@@ -161,24 +166,21 @@ impl<'a> Tokens<'a> {
         ensures value { result ≡ bytes_left self.now }
         ensures bound { length (ahead self.now) ≤ result }
     {
-        self.next.map_or(0, |_| self.rest.len() + 1)
+        self.next.map_or(0, |_| self.rest.bytes.len() + 1)
     }
 }
 
-// The tokens of what is left of a text of that length.
+// The tokens of what is left of a text.
 #[tactic(auto, unfolding(crate::specs::Items::ahead, crate::specs::Items::bytes_left))]
-fn tokens_from<'a>(rest: &'a [u8], place: usize, len: usize) -> Tokens<'a>
-    requires { place + length rest.now ≡ len }
-    ensures items { ahead result ≡ items rest.now place }
-    ensures len { result.len ≡ len }
-    ensures left { bytes_left result ≤ length rest.now }
+fn tokens_from<'a>(rest: Rest<'a>) -> Tokens<'a>
+    ensures items { ahead result ≡ items rest.entry.bytes.now rest.entry.place }
+    ensures end { ends_at result.rest ≡ ends_at rest.entry }
+    ensures left { bytes_left result ≤ length rest.entry.bytes.now }
 {
-    let cut = next_token(rest, place, len);
+    let cut = next_token(rest);
     Tokens {
         rest: cut.rest,
-        place: cut.place,
         next: cut.next,
-        len,
     }
 }
 
