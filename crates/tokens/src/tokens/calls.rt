@@ -145,12 +145,7 @@ impl<'a> Tokens<'a> {
         ensures rest { cursor self.new ≡ step (cursor self.old) }
         ensures shorter { (ahead self.old ≢ []) → bytes_left self.new < bytes_left self.old }
     {
-        if !self.is(mark) {
-            return Err(self.refuse());
-        }
-        let place = self.place();
-        self.advance();
-        Ok(place)
+        self.take(self.is(mark).then_some(self.place()))
     }
 
     // The mark that the next token is, if it is one.
