@@ -8,7 +8,7 @@ ghost use Rattle.record.specs.Lassos.{saying_of, heading_as, Fits};
 
 use faults::Fault;
 use lasso::{Shape, State};
-use numbers::{Entry, MOST_BYTES, Reader};
+use numbers::{Entry, Reader};
 use trace::{MOST_PLACES, MOST_STATES, Table, Trace, blank};
 
 // What comes before the states.
@@ -58,10 +58,7 @@ fn read_trace(bytes: &[u8]) -> Result<Trace, Fault>
 fn read_lasso(bytes: &[u8]) -> Result<Lasso, Fault>
     ensures { MatchResult result (λ l. (parse bytes.now ≡ Ok (saying_of l)) × Fits l) (λ f. parse bytes.now ≡ Err f) }
 {
-    if bytes.len() > MOST_BYTES {
-        return Err(Fault::TooManyBytes);
-    }
-    let mut reader = Reader::new(bytes);
+    let mut reader = Reader::begin(bytes)?;
     let header = read_header(&mut reader)?;
     let mut held = blank();
     read_states(&mut reader, header, &mut held)?;

@@ -11,7 +11,7 @@ use super::super::marks::read_marks;
 use super::Log;
 use faults::Fault;
 use lasso::{State, Value};
-use numbers::{MOST_BYTES, Reader};
+use numbers::Reader;
 use source::{MOST_INSTANTS, MOST_PLACES, Source};
 
 // What comes before the marks.
@@ -50,10 +50,7 @@ fn read_instants(reader: &mut Reader<'_>, header: Header) -> Result<(), Fault>
 fn parsed(bytes: &[u8]) -> Result<(), Fault>
     ensures { MatchResult result (λ _. is_ok (parse bytes.now) ≡ true) (λ f. parse bytes.now ≡ Err f) }
 {
-    if bytes.len() > MOST_BYTES {
-        return Err(Fault::TooManyBytes);
-    }
-    let mut reader = Reader::new(bytes);
+    let mut reader = Reader::begin(bytes)?;
     let header = read_header(&mut reader)?;
     read_instants(&mut reader, header)?;
     reader.finish()

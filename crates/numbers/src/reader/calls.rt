@@ -1,10 +1,11 @@
 ghost use Rattle.std.specs.Prelude.{◌≡◌, ◌^◌, ◌<◌, ◌≤◌, length, min, drop, IfOk, MatchResult};
-ghost use Rattle.numbers.specs.Numbers.{read_at, within, edition_at, left_over, Bytes, Stands, Refuses};
+ghost use Rattle.faults.specs.declared.Fault.TheVariants.{TooManyBytes};
+ghost use Rattle.numbers.specs.Numbers.{most_bytes, read_at, within, edition_at, left_over, Bytes, Stands, Refuses};
 ghost use Rattle.numbers.specs.Lists.{entry};
 ghost use Rattle.numbers.specs.Readers.{Answers};
 
 use super::super::entry::Entry;
-use super::super::read::{Unread, first_number};
+use super::super::read::{MOST_BYTES, Unread, first_number};
 use super::Reader;
 use faults::Fault;
 
@@ -15,6 +16,16 @@ impl<'a> Reader<'a> {
         ensures start { result.at ≡ 0 }
     {
         Reader { bytes, at: 0 }
+    }
+
+    // Reads bytes from their start, if there are not too many.
+    pub fn begin(bytes: &'a [u8]) -> Result<Reader<'a>, Fault>
+        ensures { MatchResult result (λ r. (length bytes.now ≤ most_bytes) × (r.bytes.now ≡ bytes.now) × (r.at ≡ 0)) (λ f. (most_bytes < length bytes.now) × (f ≡ TooManyBytes)) }
+    {
+        if bytes.len() > MOST_BYTES {
+            return Err(Fault::TooManyBytes);
+        }
+        Ok(Reader::new(bytes))
     }
 
     // Reads bytes from one of them on; past the end there are none.
