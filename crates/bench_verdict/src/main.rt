@@ -6,11 +6,11 @@ mod counts;
 mod marks;
 mod problems;
 
-use anyhow::{Context, Result, anyhow, bail};
+use anyhow::{Context, Result, anyhow};
 use counts::Counts;
 use logs::Log;
 use problem::Problem;
-use reader::read;
+use reader::{Refusal, read};
 use std::env;
 use std::time::Instant;
 use verdict::verdict;
@@ -47,10 +47,11 @@ fn measure(rt: &HostRuntime, name: &str, text: &[u8], count: u32) -> Result<()> 
 // The problem that a text is.
 fn problem_of(rt: &HostRuntime, text: &[u8]) -> Result<Problem> {
     let mut problem = Problem::fresh(rt.alloc())?;
-    if read(text, &mut problem, rt.alloc()).is_err() {
-        bail!("the problem is not read");
+    match read(text, &mut problem, rt.alloc()) {
+        Ok(()) => Ok(problem),
+        Err(Refusal::Fault(fault)) => Err(anyhow!("the problem is refused: {fault}")),
+        Err(Refusal::Memory(wanting)) => Err(wanting.into()),
     }
-    Ok(problem)
 }
 
 // The log that bytes are.

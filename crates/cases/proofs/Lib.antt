@@ -1,2 +1,3 @@
+pub mod FirstKind
 pub mod Results
 pub mod Pairs

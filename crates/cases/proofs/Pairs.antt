@@ -1,5 +1,5 @@
 -- A text in pairs: what is left after one pair more, and where the pair stands.
-use Rattle.std.proofs.Common.{◌≡◌, ℕ, ◌+◌, ◌-◌, ◌*◌, ◌<◌, ◌≤◌, List, length, drop, take, get_or, sym, ap, ◌∙◌, arith}
+use Rattle.std.proofs.Common.{◌≡◌, ℕ, ◌+◌, ◌-◌, ◌*◌, List, length, drop, take, get_or, ap, ◌∙◌, arith}
 use Rattle.std.proofs.Math.Seq.{drop-drop, get_or-drop}
 use Rattle.std.proofs.lemmas.List.{take_all}
 use lib.ListN.{length-drop}

@@ -1,12 +1,15 @@
 -- What is answered to a line. Assumes nothing.
-use Rattle.std.specs.Prelude.{◌≡◌, ℕ, List, codes, Some, None, Ok, Err, Option, ◌≢◌}
+use Rattle.std.specs.Prelude.{◌≡◌, ℕ, List, Some, None, Ok, Err, Result, Option, MatchResult}
+use Rattle.faults.specs.declared.Fault.{Fault}
+use Rattle.problem.specs.declared.problem.Problem.{Problem}
 use Rattle.record.specs.Reading as record_reading
 use Rattle.logs.specs.Told as log_reading
-use Rattle.reader.specs.Reading.{Contents, reading}
+use Rattle.reader.specs.Reading.{Contents, contents, reading}
 use Rattle.cases.specs.declared.answer.Answer.{Answer}
 use Rattle.cases.specs.declared.answer.Answer.TheVariants.{Held, Known, Accepted, Refused, Judged, Unknown}
-use Rattle.cases.specs.declared.answer.Kind.{Kind}
-use Rattle.cases.specs.declared.answer.Kind.TheVariants.{Record, Log, Text, Verdict}
+use Rattle.cases.specs.declared.kind.Kind.{Kind}
+use Rattle.cases.specs.declared.kind.Kind.TheVariants.{Record, Log, Text, Verdict}
+use Rattle.cases.specs.Kinds.{IsKind}
 use Rattle.cases.specs.Hex.{OfBytes, NoHex}
 use Rattle.cases.specs.Judgements.{OfPair}
 
@@ -28,6 +31,10 @@ ToLog text (Refused f) = OfBytes text (λ bytes. log_reading.Refused bytes f)
 ToLog text (Judged j) = ⊥
 ToLog text Unknown = NoHex text
 
+-- what bytes are read as: what a problem holds, or a refusal
+abbrev pub ReadAs : List ℕ → Result Problem Fault → Type 0
+ReadAs bytes r = MatchResult r (λ p. reading bytes ≡ Ok (contents p)) (λ f. reading bytes ≡ Err f)
+
 -- the answer to a problem text: accepted exactly where it is read, or its refusal
 abbrev pub ToText : List ℕ → Answer → Type 0
 ToText text (Held t) = ⊥
@@ -36,14 +43,6 @@ ToText text Accepted = OfBytes text (λ bytes. (problem : Contents) × (reading 
 ToText text (Refused f) = OfBytes text (λ bytes. reading bytes ≡ Err f)
 ToText text (Judged j) = ⊥
 ToText text Unknown = NoHex text
-
--- the kind of a case, by its first word; none by another
-abbrev pub IsKind : List ℕ → Option Kind → Type 0
-IsKind word (Some Record) = word ≡ codes "record"
-IsKind word (Some Log) = word ≡ codes "log"
-IsKind word (Some Text) = word ≡ codes "text"
-IsKind word (Some Verdict) = word ≡ codes "verdict"
-IsKind word None = (word ≢ codes "record") × (word ≢ codes "log") × (word ≢ codes "text") × (word ≢ codes "verdict")
 
 -- the answer to a case of a kind; any other is not understood
 abbrev pub ToKind : Option Kind → List ℕ → Answer → Type 0

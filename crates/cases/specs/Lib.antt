@@ -1,4 +1,5 @@
 pub mod Lines
 pub mod Hex
+pub mod Kinds
 pub mod Judgements
 pub mod Answers

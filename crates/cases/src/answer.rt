@@ -1,10 +1,11 @@
-ghost use Rattle.std.specs.Prelude.{◌≡◌, ℕ, List, IfOk, Decides};
-ghost use Rattle.cases.specs.Hex.{Hex};
+ghost use Rattle.std.specs.Prelude.{◌≡◌, ℕ, List, IfOk, Decides, MatchOption};
+ghost use Rattle.cases.specs.Hex.{Hex, OfBytes, NoHex};
 ghost use Rattle.cases.specs.Lines.{Cut};
-ghost use Rattle.cases.specs.Answers.{ToRecord, ToLog, ToText, IsKind, Answers};
-ghost use Rattle.cases.specs.Judgements.{OfPair, ToSource};
+ghost use Rattle.cases.specs.Answers.{ReadAs, ToRecord, ToLog, ToText, Answers};
+ghost use Rattle.cases.specs.Judgements.{OfPair, ToPair, ToSource};
 
 use super::hex::bytes_of;
+use super::kind::Kind;
 use super::judgement::{NoVerdict, by_log, by_nothing};
 use super::lines::cut;
 use faults::Fault;
@@ -30,15 +31,6 @@ pub enum Answer {
     Unknown,
 }
 
-// The kind of a case.
-#[derive(Clone, Copy)]
-enum Kind {
-    Record,
-    Log,
-    Text,
-    Verdict,
-}
-
 impl Answer {
     // The answer to a line: its first word says the kind of case.
     pub fn to(line: &[u8], heap: Global) -> Result<Answer, AllocError>
@@ -53,33 +45,13 @@ impl Answer {
 fn to_case(word: &[u8], text: &[u8], heap: Global) -> Result<Answer, AllocError>
     ensures { IfOk result (λ a. Answers word.now text.now a) }
 {
-    match kind_of(word) {
+    match Kind::of(word) {
         Some(Kind::Record) => to_record(text, heap),
         Some(Kind::Log) => to_log(text, heap),
         Some(Kind::Text) => to_text(text, heap),
         Some(Kind::Verdict) => to_pair(text, heap),
         None => Ok(Answer::Unknown),
     }
-}
-
-// The kind of a case, by its first word.
-fn kind_of(word: &[u8]) -> Option<Kind>
-    ensures { IsKind word.now result }
-{
-    // Tried: byte strings as patterns. A word that fits none of them is split into 23 cases, and their proof did not close.
-    if is_word(word, b"record") {
-        return Some(Kind::Record);
-    }
-    if is_word(word, b"log") {
-        return Some(Kind::Log);
-    }
-    if is_word(word, b"text") {
-        return Some(Kind::Text);
-    }
-    if is_word(word, b"verdict") {
-        return Some(Kind::Verdict);
-    }
-    None
 }
 
 // Whether two words are the same: `==`, with what it means as a contract, which the search needs of a literal's bytes.
@@ -138,35 +110,48 @@ fn known_line(log: &Log<'_>, heap: Global) -> Result<String, AllocError> {
     Ok(line)
 }
 
-// The answer to a problem text in hexadecimal.
-fn to_text(text: &[u8], heap: Global) -> Result<Answer, AllocError>
-    ensures { IfOk result (λ a. ToText text.now a) }
+// The problem that a text in hexadecimal is, or its refusal; none where it is no hexadecimal.
+fn problem_in(text: &[u8], heap: Global) -> Result<Option<Result<Problem, Fault>>, AllocError>
+    ensures { IfOk result (λ o. MatchOption o (NoHex text.now) (λ r. OfBytes text.now (λ bytes. ReadAs bytes r))) }
 {
     let Some(bytes) = bytes_of(text, heap)? else {
-        return Ok(Answer::Unknown);
+        return Ok(None);
     };
     let mut problem = Problem::fresh(heap)?;
     match read(bytes.as_slice(), &mut problem, heap) {
-        Ok(()) => Ok(Answer::Accepted),
-        Err(Refusal::Fault(fault)) => Ok(Answer::Refused(fault)),
+        Ok(()) => Ok(Some(Ok(problem))),
+        Err(Refusal::Fault(fault)) => Ok(Some(Err(fault))),
         Err(Refusal::Memory(wanting)) => Err(wanting),
     }
 }
 
-// The answer to a problem text and a log, both in hexadecimal, with a space between them. It reads the text as above: what the two
-// share is the match on what comes of it, whose arms differ.
+// The answer to a problem text in hexadecimal.
+fn to_text(text: &[u8], heap: Global) -> Result<Answer, AllocError>
+    ensures { IfOk result (λ a. ToText text.now a) }
+{
+    match problem_in(text, heap)? {
+        Some(Ok(_)) => Ok(Answer::Accepted),
+        Some(Err(fault)) => Ok(Answer::Refused(fault)),
+        None => Ok(Answer::Unknown),
+    }
+}
+
+// The answer to a problem text and a log, both in hexadecimal, with a space between them.
 fn to_pair(text: &[u8], heap: Global) -> Result<Answer, AllocError>
     ensures { IfOk result (λ a. OfPair text.now a) }
 {
     let (word, log) = cut(text, b' ');
-    let Some(bytes) = bytes_of(word, heap)? else {
-        return Ok(Answer::Unknown);
-    };
-    let mut problem = Problem::fresh(heap)?;
-    match read(bytes.as_slice(), &mut problem, heap) {
-        Ok(()) => to_source(&problem, log, heap),
-        Err(Refusal::Fault(fault)) => Ok(Answer::Judged(Err(NoVerdict::TextRefused(fault)))),
-        Err(Refusal::Memory(wanting)) => Err(wanting),
+    to_verdict(word, log, heap)
+}
+
+// The answer to a problem text and a log, both in hexadecimal.
+fn to_verdict(text: &[u8], log: &[u8], heap: Global) -> Result<Answer, AllocError>
+    ensures { IfOk result (λ a. ToPair text.now log.now a) }
+{
+    match problem_in(text, heap)? {
+        Some(Ok(problem)) => to_source(&problem, log, heap),
+        Some(Err(fault)) => Ok(Answer::Judged(Err(NoVerdict::TextRefused(fault)))),
+        None => Ok(Answer::Unknown),
     }
 }
 

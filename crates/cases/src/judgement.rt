@@ -6,15 +6,18 @@ use logs::Log;
 use places::places;
 use problem::Problem;
 use source::{Blank, Source};
-use std::error::Error;
 use std::fmt;
+use thiserror::Error;
 use verdict::verdict;
 
 // Why there is no verdict: the problem text or the log is refused, or the two do not fit.
-#[derive(Clone, Copy, Debug)]
+#[derive(Clone, Copy, Debug, Error)]
 pub enum NoVerdict {
+    #[error("text refused {} at {}", .0.number(), .0.place())]
     TextRefused(Fault),
+    #[error("log refused {} at {}", .0.number(), .0.place())]
     LogRefused(Fault),
+    #[error("{}", InWords { misfit: *.0 })]
     Unfit(Fault),
 }
 
@@ -41,31 +44,20 @@ fn by_source<S: Source>(problem: &Problem, source: &S) -> Result<Value, NoVerdic
     verdict(problem, source).map_err(NoVerdict::Unfit)
 }
 
-// By hand: what is printed of a misfit depends on the fault, which no attribute of a variant says.
-impl fmt::Display for NoVerdict {
+// A misfit in words: its number, and where and when a contradiction shows.
+#[derive(Drop)]
+struct InWords {
+    misfit: Fault,
+}
+
+impl fmt::Display for InWords {
     fn fmt<W: fmt::Write>(&self, f: &mut fmt::Formatter<W>) -> fmt::Result {
-        match *self {
-            NoVerdict::TextRefused(fault) => refusal("text refused", fault, f),
-            NoVerdict::LogRefused(fault) => refusal("log refused", fault, f),
-            NoVerdict::Unfit(fault) => misfit(fault, f),
+        let number = self.misfit.number();
+        match self.misfit {
+            Fault::Contradiction { place, instant } => {
+                write!(f, "refused {number} at {place} instant {}", instant.0)
+            }
+            _ => write!(f, "refused {number}"),
         }
-    }
-}
-
-impl Error for NoVerdict {}
-
-// The number and the place of a refusal of bytes.
-fn refusal<W: fmt::Write>(kind: &str, fault: Fault, f: &mut fmt::Formatter<W>) -> fmt::Result {
-    write!(f, "{kind} {} at {}", fault.number(), fault.place())
-}
-
-// The number of a misfit, and where and when a contradiction shows.
-fn misfit<W: fmt::Write>(fault: Fault, f: &mut fmt::Formatter<W>) -> fmt::Result {
-    let number = fault.number();
-    match fault {
-        Fault::Contradiction { place, instant } => {
-            write!(f, "refused {number} at {place} instant {}", instant.0)
-        }
-        _ => write!(f, "refused {number}"),
     }
 }

@@ -4,6 +4,7 @@
 mod answer;
 mod hex;
 mod judgement;
+mod kind;
 mod lines;
 
 use answer::Answer;

@@ -1,13 +1,13 @@
 use super::misfit_in_words::MisfitInWords;
 use super::verdict_in_words::VerdictInWords;
-use anyhow::{Context, anyhow, ensure};
+use anyhow::{Context, ensure};
 use logs::Log;
 use places::places;
 use problem::Problem;
 use source::{Blank, Source};
 use std::{env, fs};
 use verdict::verdict;
-use words::Refusal;
+use words::{Refusal, refuse};
 
 // Says what is known of the formula, by the log whose file the program is given, or by nothing.
 pub(crate) fn tell_verdict(rt: &HostRuntime, problem: &Problem) -> anyhow::Result<()> {
@@ -40,8 +40,7 @@ fn by_log(rt: &HostRuntime, problem: &Problem, path: &str) -> anyhow::Result<()>
         Ok(()) => by_source(rt, problem, &log),
         Err(fault) => {
             let refusal = Refusal { fault };
-            println!(rt; "the log is {refusal}")?;
-            Err(anyhow!("refused"))
+            refuse(rt, format_args!("the log is {refusal}"))
         }
     }
 }
@@ -53,9 +52,6 @@ fn by_source<S: Source>(rt: &HostRuntime, problem: &Problem, source: &S) -> anyh
             rt.println(VerdictInWords { value })?;
             Ok(())
         }
-        Err(fault) => {
-            rt.println(MisfitInWords { problem, fault })?;
-            Err(anyhow!("refused"))
-        }
+        Err(fault) => refuse(rt, MisfitInWords { problem, fault }),
     }
 }

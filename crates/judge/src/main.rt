@@ -39,6 +39,7 @@ fn judge(rt: &HostRuntime, text: &[u8], problem: Problem) -> anyhow::Result<()> 
             })?;
             tell_verdict(rt, &problem)
         }
+        // Not by `refuse` of `words`, which prints one line: this is several, each with its end.
         Err(Refusal::Fault(fault)) => {
             rt.print(Refused { text, fault })?;
             Err(anyhow!("refused"))

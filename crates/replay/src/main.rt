@@ -1,11 +1,10 @@
 //! Reads a record from standard input and says in words what it holds, or why it is refused.
 #![tactic(auto)]
 
-use anyhow::anyhow;
 use record::read_record;
 use std::io::Read;
 use trace::Trace;
-use words::{InWords, Refusal};
+use words::{InWords, Refusal, refuse};
 
 fn main(rt: HostRuntime) -> anyhow::Result<()> {
     let mut bytes = Vec::new(rt.alloc());
@@ -17,9 +16,6 @@ fn main(rt: HostRuntime) -> anyhow::Result<()> {
             println!(rt; "a record of {count} bytes: {shown}")?;
             Ok(())
         }
-        Err(fault) => {
-            rt.println(Refusal { fault })?;
-            Err(anyhow!("refused"))
-        }
+        Err(fault) => refuse(&rt, Refusal { fault }),
     }
 }

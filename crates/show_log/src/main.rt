@@ -1,12 +1,11 @@
 //! Reads a controller's log from standard input and says in words what it knows, or why it is refused.
 #![tactic(auto)]
 
-use anyhow::anyhow;
 use lasso::Instant;
 use logs::Log;
 use source::Source;
 use std::io::Read;
-use words::{ChangedAt, KnownAt, Refusal, noun};
+use words::{ChangedAt, KnownAt, Refusal, noun, refuse};
 
 fn main(rt: HostRuntime) -> anyhow::Result<()> {
     let mut bytes = Vec::new(rt.alloc());
@@ -14,10 +13,7 @@ fn main(rt: HostRuntime) -> anyhow::Result<()> {
     let mut log = Log::fresh();
     match log.read(bytes.as_slice()) {
         Ok(()) => show(&rt, &log, bytes.len()),
-        Err(fault) => {
-            rt.println(Refusal { fault })?;
-            Err(anyhow!("refused"))
-        }
+        Err(fault) => refuse(&rt, Refusal { fault }),
     }
 }
 

@@ -10,7 +10,7 @@ mod refusal;
 
 pub use held::{HeldIn, InWords};
 pub use known::{ChangedAt, KnownAt};
-pub use refusal::Refusal;
+pub use refusal::{Refusal, refuse};
 
 // The word for one of a kind, or for none or several.
 pub fn noun(count: usize, one: &'static str, several: &'static str) -> &'static str

@@ -1,3 +1,6 @@
+ghost use Rattle.std.specs.Prelude.{◌≡◌, true, is_err};
+
+use anyhow::anyhow;
 use faults::Fault;
 use std::fmt;
 
@@ -13,4 +16,12 @@ impl fmt::Display for Refusal {
         let (number, place) = (fault.number(), fault.place());
         write!(f, "refused {number} at {place}: {fault}")
     }
+}
+
+// Prints why something is refused, and ends the program as one that refused.
+pub fn refuse<D: fmt::Display + Drop>(rt: &HostRuntime, why: D) -> anyhow::Result<()>
+    ensures { is_err result ≡ true }
+{
+    rt.println(why)?;
+    Err(anyhow!("refused"))
 }

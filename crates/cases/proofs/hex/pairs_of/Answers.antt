@@ -1,4 +1,4 @@
-use Rattle.std.proofs.Common.{◌≡◌, ℕ, ◌+◌, ◌*◌, ◌<◌, drop, length, get_or, Some, vec_items, vec_len, refl, sym, ap, ◌∙◌, subst, arith, below_more}
+use Rattle.std.proofs.Common.{◌≡◌, ◌+◌, ◌*◌, length, get_or, Some, vec_items, vec_len, refl, sym, ap, ◌∙◌, arith, below_more}
 use lib.ListN.{length-drop}
 use Rattle.cases.specs.Hex.{digit_of, both}
 use Rattle.cases.proofs.Pairs.{after_pair, at_pair}
