@@ -1,5 +1,5 @@
 -- No two tuples have the same place.
-use Rattle.std.proofs.Common.{◌≡◌, ℕ, ◌+◌, ◌<◌, ◌≤◌, Bool, true, false, cond, ltb, List, length, get_or, take, Some, None, sum, Option, refl, ap, ◌∙◌, inl, inr, arith, ltb-true, lt-ltb, MatchOption}
+use Rattle.std.proofs.Common.{◌≡◌, ℕ, ◌+◌, ◌<◌, ◌≤◌, Bool, true, false, cond, ltb, List, length, get_or, take, Some, None, sum, Option, refl, ap, ◌∙◌, inl, inr, arith, ltb-true, MatchOption}
 use Rattle.std.proofs.lemmas.List.{get_or_past, length-map, take-take}
 use Rattle.std.proofs.lemmas.List.Sums.{sum_by_more, sum_by-take-le}
 use Rattle.std.proofs.lemmas.Bool.{cases_lt, cases_order}
@@ -49,9 +49,6 @@ placed_by ss i t p false h e = absurd (let z : ◌≡◌ {A = ℕ} 0 1 = cc in o
 
 pub place_inv : (ss : List ℕ) (i t p : ℕ) → place_of ss i t ≡ Some p → Placed ss i t p
 place_inv ss i t p e = placed_by ss i t p (ltb t (get_or ss i 0)) refl e
-
-pub place_is : (ss : List ℕ) (i t p : ℕ) → t < get_or ss i 0 → before ss i + t ≡ p → place_of ss i t ≡ Some p
-place_is ss i t p h e = ap (λ b. cond b (Some (before ss i + t)) None) (lt-ltb _ _ h) ∙ ap Some e
 
 same_tuple : (t u : Tuple) → t.relation ≡ u.relation → t.tuple ≡ u.tuple → t ≡ u
 same_tuple t u e f =

@@ -55,6 +55,7 @@ impl Shape {
     }
 
     // The law of folding, over endless time.
+    #[tactic(auto, using(crate::proofs::Folds::rounds_state_at, crate::proofs::Folds::state_at_below, crate::proofs::Folds::endless))]
     fn state_at(self, i: usize) -> usize
         ensures value { result ≡ state_at self.states self.loop_start i }
         ensures inside { result < self.states }
