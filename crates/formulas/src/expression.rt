@@ -8,7 +8,7 @@ ghost use Rattle.formulas.specs.Expressions.{primary as primary_of, primed, begu
 ghost use Rattle.formulas.specs.Parsers.{answer, from};
 
 use super::parser::Parser;
-use super::sketch::{Bracket, close, open};
+use super::sketch::{Bracket, open};
 use super::start::{Head, head_of, operator_of};
 use super::wish::{Wish, Wishes, ask};
 use faults::Fault;
@@ -59,6 +59,7 @@ impl Parser<'_> {
     }
 
     // Reads a part without its ' signs, at most so many levels deep.
+    #[tactic(auto, using(crate::proofs::Levels::primary_none, crate::proofs::Levels::primary_more))]
     #[cycle(begin_bracketed_expression_primary_turned)]
     fn primary(
         &mut self,
@@ -68,10 +69,8 @@ impl Parser<'_> {
     ) -> Result<usize, Fault>
         ensures { answer result self.new brackets.new ≡ from self.old brackets.old (primary_of levels wishes.under wishes.whole) }
     {
-        if levels == 0 {
-            return Err(self.tokens.refuse());
-        }
-        self.begin(brackets, levels - 1, wishes)
+        let under = self.deeper(levels)?;
+        self.begin(brackets, under, wishes)
     }
 
     // Reads a part by what it begins with.
@@ -136,10 +135,8 @@ impl Parser<'_> {
     {
         open(brackets, place)?;
         let left = self.expression(brackets, levels, None)?;
-        let at = self.tokens.place();
         let seen = operator_of(&self.tokens);
-        let operator = self.tokens.take(seen)?;
-        self.sketch.count(at)?;
+        let operator = self.sign(seen)?;
         let right = self.expression(brackets, levels, None)?;
         self.combined(brackets, Node::Combined(operator, left, right), wishes)
     }
@@ -153,10 +150,7 @@ impl Parser<'_> {
     ) -> Result<usize, Fault>
         ensures { answer result self.new brackets.new ≡ from self.old brackets.old (combined_of node wishes.under wishes.whole) }
     {
-        let Some(place) = close(brackets) else {
-            return Err(self.tokens.refuse());
-        };
-        self.tokens.expect(Mark::CloseBracket)?;
+        let place = self.close(brackets, Mark::CloseBracket)?;
         let whole = self.sketch.put(Kind::Expression, node, place)?;
         let arity = self.sketch.arity(whole);
         let asked = self.at_end(wishes);

@@ -1,11 +1,11 @@
 ghost use Rattle.std.specs.Prelude.{◌≡◌};
 ghost use Rattle.names.specs.Names.{spelling};
 ghost use Rattle.formulas.specs.Expressions.{expression as expression_of, after_name};
-ghost use Rattle.formulas.specs.Formulas.{formula as formula_of, begun, prefixed as prefixed_of, joined as joined_of, close_joined, tested as tested_of, compared as compared_of, all as all_of, some as some_of, some_named, domain as domain_of, scope as scope_of};
+ghost use Rattle.formulas.specs.Formulas.{formula as formula_of, begun, prefixed as prefixed_of, joined as joined_of, tested as tested_of, compared as compared_of, all as all_of, some as some_of, some_named, domain as domain_of, scope as scope_of};
 ghost use Rattle.formulas.specs.Parsers.{answer, from};
 
 use super::parser::Parser;
-use super::sketch::{Bracket, close, open};
+use super::sketch::{Bracket, open};
 use super::start::{Start, comparison_of, infix_of, start_of};
 use super::wish::Wish;
 use faults::Fault;
@@ -23,6 +23,7 @@ struct Opening {
 
 impl Parser<'_> {
     // Reads a formula, at most so many levels deep.
+    #[tactic(auto, using(crate::proofs::Levels::formula_none, crate::proofs::Levels::formula_more))]
     #[cycle(all_domain_formula_joined_prefixed_scope_some_some_named_start)]
     pub fn formula(
         &mut self,
@@ -31,10 +32,8 @@ impl Parser<'_> {
     ) -> Result<usize, Fault>
         ensures { answer result self.new brackets.new ≡ from self.old brackets.old (formula_of levels) }
     {
-        if levels == 0 {
-            return Err(self.tokens.refuse());
-        }
-        self.start(brackets, levels - 1)
+        let under = self.deeper(levels)?;
+        self.start(brackets, under)
     }
 
     // Reads a formula by what it begins with.
@@ -100,27 +99,12 @@ impl Parser<'_> {
     {
         open(brackets, place)?;
         let left = self.formula(brackets, levels)?;
-        let at = self.tokens.place();
         let seen = infix_of(&self.tokens);
-        let infix = self.tokens.take(seen)?;
-        self.sketch.count(at)?;
+        let infix = self.sign(seen)?;
         let right = self.formula(brackets, levels)?;
-        self.close_joined(brackets, Node::Joined(infix, left, right))
-    }
-
-    // Reads the bracket that closes, and puts what stands in the brackets.
-    fn close_joined(
-        &mut self,
-        brackets: &mut Stack<'_, Bracket>,
-        node: Node,
-    ) -> Result<usize, Fault>
-        ensures { answer result self.new brackets.new ≡ from self.old brackets.old (close_joined node) }
-    {
-        let Some(place) = close(brackets) else {
-            return Err(self.tokens.refuse());
-        };
-        self.tokens.expect(Mark::CloseParen)?;
-        self.sketch.put(Kind::Formula, node, place)
+        let opened_at = self.close(brackets, Mark::CloseParen)?;
+        self.sketch
+            .put(Kind::Formula, Node::Joined(infix, left, right), opened_at)
     }
 
     // Reads the expression that is asked about.
@@ -144,10 +128,8 @@ impl Parser<'_> {
     {
         let place = self.tokens.place();
         let left = self.expression(brackets, levels, None)?;
-        let at = self.tokens.place();
         let seen = comparison_of(&self.tokens);
-        let comparison = self.tokens.take(seen)?;
-        self.sketch.count(at)?;
+        let comparison = self.sign(seen)?;
         let arity = self.sketch.arity(left);
         let right = self.expression(brackets, levels, Some(Wish { arity, place }))?;
         self.sketch.put(
