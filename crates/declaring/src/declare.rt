@@ -48,7 +48,7 @@ impl<'a> Reader<'a> {
     }
 
     // Reads atoms up to the sign that ends them.
-    #[tactic(auto, using(crate::proofs::Turns::atoms_none, crate::proofs::Turns::atoms_end, crate::proofs::Turns::atoms_more))]
+    #[tactic(auto, using(crate::proofs::Turns::atoms_none, crate::proofs::Turns::atoms_end, crate::proofs::Turns::atoms_more, crate::proofs::Turns::atoms_fail))]
     fn more_atoms(&mut self) -> Result<(), Fault>
         ensures { answer result self.new ≡ from self.old (further_atoms most_text) }
     {
@@ -70,7 +70,7 @@ impl<'a> Reader<'a> {
     }
 
     // Reads the relations.
-    #[tactic(auto, using(crate::proofs::Turns::relations_none, crate::proofs::Turns::relations_end, crate::proofs::Turns::relations_more))]
+    #[tactic(auto, using(crate::proofs::Turns::relations_none, crate::proofs::Turns::relations_end, crate::proofs::Turns::relations_more, crate::proofs::Turns::relations_fail))]
     fn relations(&mut self) -> Result<(), Fault>
         ensures { answer result self.new ≡ from self.old (relations_of most_text) }
     {

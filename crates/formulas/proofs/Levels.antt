@@ -1,5 +1,5 @@
 -- What is read at a number of levels, by that at one less.
-use Rattle.std.proofs.Common.{◌≡◌, ℕ, zero, suc, ◌+◌, ◌-◌, ◌<◌, true, false, Option, sym, refl, ap, ◌∙◌, arith}
+use Rattle.std.proofs.Common.{◌≡◌, ℕ, zero, suc, ◌+◌, ◌<◌, true, false, Option, sym, refl, ap, ◌∙◌, arith}
 use Rattle.faults.specs.declared.Fault.{Fault}
 use Rattle.tokens.specs.Cursors.{Cursor, head, step}
 use Rattle.formulas.specs.declared.wish.Wish.{Wish}
@@ -44,9 +44,16 @@ unfolding primes
 primes_end zero p w i c b o e = refl
 primes_end (suc n) p w i c b o e = sym (cond-false _ _ _ e)
 
-pub primes_more : (n p : ℕ) (w : Option Wish) (i : ℕ) (c : Cursor) (b : Body) (o : Open) → 0 < n → is_mark mark.Prime (head c) ≡ true → then (prime p w i c b o) (λ j c₁ b₁ o₁. primes (n - 1) p w j c₁ b₁ o₁) ≡ primes n p w i c b o
+pub primes_more : (n m p : ℕ) (w : Option Wish) (i j : ℕ) (c d : Cursor) (b a : Body) (o : Open) → m + 1 ≡ n → is_mark mark.Prime (head c) ≡ true → ok j d a o ≡ prime p w i c b o → primes m p w j d a o ≡ primes n p w i c b o
 unfolding primes
-primes_more zero p w i c b o h e = absurd (omega arith)
-primes_more (suc n) p w i c b o h e =
-    let q : suc n - 1 ≡ n = omega arith in
-    ap (λ m. then (prime p w i c b o) (λ j c₁ b₁ o₁. primes m p w j c₁ b₁ o₁)) q ∙ sym (cond-true _ _ _ e)
+primes_more zero m p w i j c d b a o h e r = absurd (omega arith)
+primes_more (suc n) m p w i j c d b a o h e r =
+    let q : m ≡ n = omega arith in
+    ap (λ k. primes k p w j d a o) q
+    ∙ ap (λ x. then x (λ j c₁ b₁ o₁. primes n p w j c₁ b₁ o₁)) r
+    ∙ sym (cond-true _ _ _ e)
+
+pub primes_fail : (n p : ℕ) (w : Option Wish) (i : ℕ) (f : Fault) (c d : Cursor) (b : Body) (o : Open) → 0 < n → is_mark mark.Prime (head c) ≡ true → fail f d ≡ prime p w i c b o → fail f d ≡ primes n p w i c b o
+unfolding primes
+primes_fail zero p w i f c d b o h e r = absurd (omega arith)
+primes_fail (suc n) p w i f c d b o h e r = ap (λ x. then x (λ j c₁ b₁ o₁. primes n p w j c₁ b₁ o₁)) r ∙ sym (cond-true _ _ _ e)
