@@ -17,12 +17,20 @@ pub const MOST_BRACKETS: usize = 32;
 // Deeper than parts and brackets can nest.
 pub const MOST_LEVELS: usize = 290;
 
-// What is left to read, and what is read. The open brackets go beside it, from call to call (tried: a field; the borrow
-// checker has no rule yet for reading the tokens beside a slice that is lent to be written).
+// What is left to read, and what is read.
 #[derive(Drop)]
 pub struct Parser<'a> {
     pub tokens: Tokens<'a>,
     pub sketch: Sketch,
+}
+
+// The brackets that are open, and how many levels deep the next part may go. It goes beside the parser from call to call (tried: a
+// field; the borrow checker has no rule yet for reading the tokens beside a slice that is lent to be written), and each function takes
+// it apart (tried: passed on whole; the proof of a cycle of calls does not cover that yet).
+#[derive(Drop)]
+pub struct Nesting<'a, 'b> {
+    pub brackets: &'a mut Stack<'b, Bracket>,
+    pub levels: usize,
 }
 
 impl Parser<'_> {
