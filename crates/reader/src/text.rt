@@ -11,7 +11,7 @@ ghost use Rattle.reader.specs.Reading.{contents, contents_of, contents_told, val
 use super::space::Space;
 use declaring::{MOST_TEXT, Reader, read_horizon};
 use faults::Fault;
-use formulas::{Bracket, MOST_BRACKETS, MOST_LEVELS, Parser, Scope, Sketch};
+use formulas::{Bracket, MOST_BRACKETS, MOST_LEVELS, Nesting, Parser, Scope, Sketch};
 use problem::{Draft, Problem, Room};
 use relations::{Declarations, Signature};
 use stack::Stack;
@@ -79,7 +79,10 @@ fn whole_formula(parser: &mut Parser<'_>) -> Result<usize, Fault>
 {
     let mut places = [Bracket { place: 0 }; MOST_BRACKETS];
     let mut brackets = Stack::new(&mut places);
-    parser.formula(&mut brackets, MOST_LEVELS)
+    parser.formula(Nesting {
+        brackets: &mut brackets,
+        levels: MOST_LEVELS,
+    })
 }
 
 // The problem of a formula that was read.
