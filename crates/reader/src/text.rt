@@ -51,7 +51,7 @@ fn read_problem(
 }
 
 // A formula of which nothing is read, over what is declared.
-#[tactic(auto, unfolding(crate::specs::Reading::unread))]
+#[tactic(auto, using(crate::proofs::Starting::begun_unread, crate::proofs::Starting::begun_scope))]
 fn sketch_over(signature: Signature, room: Room, scope: Scope) -> Sketch
     ensures unread { body result ≡ unread (framed signature) }
     ensures scope { (body result).scope ≡ [] }
@@ -72,6 +72,7 @@ fn read_formula(mut parser: Parser<'_>) -> Result<Problem, Fault>
 }
 
 // Reads the formula.
+#[tactic(auto, using(crate::proofs::Starting::read_alone))]
 fn whole_formula(parser: &mut Parser<'_>) -> Result<usize, Fault>
     requires { (body parser.old.sketch).scope ≡ [] }
     ensures value { told result (cursor parser.new.tokens) (body parser.new.sketch) ≡ formula_only (formula levels (cursor parser.old.tokens) (body parser.old.sketch) no_bracket) }
@@ -86,6 +87,7 @@ fn whole_formula(parser: &mut Parser<'_>) -> Result<usize, Fault>
 }
 
 // The problem of a formula that was read.
+#[tactic(auto, using(crate::proofs::Starting::held_whole))]
 fn finish(sketch: Sketch) -> Problem
     requires { Whole (sorts_of sketch.draft) }
     ensures { contents result ≡ contents_of (body sketch) }
