@@ -1,5 +1,6 @@
-ghost use Rattle.std.specs.Prelude.{◌≡◌};
+ghost use Rattle.std.specs.Prelude.{◌≡◌, ◌<◌, length};
 ghost use Rattle.names.specs.Names.{spelling};
+ghost use Rattle.relations.specs.Declarations.{relations_of as relations_in};
 ghost use Rattle.tokens.specs.Cursors.{cursor, head};
 ghost use Rattle.tokens.specs.Outcomes.{told};
 ghost use Rattle.declaring.specs.Sets.{most_text};
@@ -20,9 +21,8 @@ pub fn read_horizon(tokens: &mut Tokens<'_>, declared: Declarations) -> Result<S
     ensures { framed_told result (cursor tokens.new) ≡ horizon (cursor tokens.old) (known declared) }
 {
     tokens.expect(Mark::Horizon)?;
-    let place = tokens.place();
-    let number = tokens.take(tokens.number())?;
-    let signature = with_horizon(declared, number, place)?;
+    let placed = tokens.take_number()?;
+    let signature = with_horizon(declared, placed)?;
     tokens.expect(Mark::Semicolon)?;
     Ok(signature)
 }
@@ -48,7 +48,7 @@ impl<'a> Reader<'a> {
     }
 
     // Reads atoms up to the sign that ends them.
-    #[tactic(auto, using(crate::proofs::Turns::atoms_none, crate::proofs::Turns::atoms_end, crate::proofs::Turns::atoms_more))]
+    #[tactic(auto, using(crate::proofs::Turns::atoms_none, crate::proofs::Turns::atoms_end, crate::proofs::Turns::atoms_more, crate::proofs::Turns::atoms_fail))]
     fn more_atoms(&mut self) -> Result<(), Fault>
         ensures { answer result self.new ≡ from self.old (further_atoms most_text) }
     {
@@ -70,7 +70,7 @@ impl<'a> Reader<'a> {
     }
 
     // Reads the relations.
-    #[tactic(auto, using(crate::proofs::Turns::relations_none, crate::proofs::Turns::relations_end, crate::proofs::Turns::relations_more))]
+    #[tactic(auto, using(crate::proofs::Turns::relations_none, crate::proofs::Turns::relations_end, crate::proofs::Turns::relations_more, crate::proofs::Turns::relations_fail))]
     fn relations(&mut self) -> Result<(), Fault>
         ensures { answer result self.new ≡ from self.old (relations_of most_text) }
     {
@@ -98,6 +98,7 @@ impl<'a> Reader<'a> {
     // Reads the bounds of a relation, and declares it.
     #[tactic(auto, unfolding(crate::specs::Known::known))]
     fn bounds(&mut self, mutability: Mutability, name: Name, arity: Arity) -> Result<(), Fault>
+        requires { length (relations_in self.old.declared) < 12 }
         ensures { answer result self.new ≡ from self.old (bounds mutability (spelling name) arity) }
     {
         let lower = self.set(arity)?;
@@ -130,7 +131,5 @@ fn mutability_of(tokens: &Tokens<'_>) -> Option<Mutability>
 fn read_arity(tokens: &mut Tokens<'_>) -> Result<Arity, Fault>
     ensures { told result (cursor tokens.new) tt ≡ arity_of (cursor tokens.old) }
 {
-    let place = tokens.place();
-    let number = tokens.take(tokens.number())?;
-    arity_given(number, place)
+    arity_given(tokens.take_number()?)
 }

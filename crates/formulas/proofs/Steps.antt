@@ -1,9 +1,11 @@
 -- Steps on what is read so far, each from what is known of its parts.
 use Rattle.std.proofs.Common.{◌≡◌, ℕ, ◌-◌, true, false, ltb, List, [], ◌∷◌, ◌++◌, map, length, get_or, take as front, Some, None, Ok, Err, Result, MatchResult, Vec, sym, refl, ap, ◌∙◌}
-use Rattle.std.proofs.lemmas.List.{length-map, take-map}
+use Rattle.std.proofs.lemmas.List.{length-map, take-map, map_push}
 use Rattle.std.proofs.lemmas.Bool.{cond-true, cond-false}
 use Rattle.faults.specs.declared.Fault.{Fault}
 use Rattle.faults.specs.declared.Fault.TheVariants.{NameUnknown, OverLimit}
+use Rattle.names.specs.declared.name.Name.{Name}
+use Rattle.names.specs.Names.{spelling}
 use Rattle.names.specs.Lookups.{index_of}
 use Rattle.problem.specs.declared.node.Node.{Node}
 use Rattle.problem.specs.declared.node.Node.TheVariants as node
@@ -46,15 +48,34 @@ unbinding s t d p e =
     }
 
 -- one variable more
-pub bound_more : (x : List ℕ) (p n : ℕ) (xs : List (List ℕ)) (b : Body) → n ≡ length b.scope → ltb n 4 ≡ true → xs ≡ b.scope ++ x ∷ [] → changed n (scoped xs b) ≡ bound x p b
+bound_more : (x : List ℕ) (p n : ℕ) (xs : List (List ℕ)) (b : Body) → n ≡ length b.scope → ltb n 4 ≡ true → xs ≡ b.scope ++ x ∷ [] → changed n (scoped xs b) ≡ bound x p b
 unfolding bound
 bound_more x p n xs b e h s =
     both (λ m ys. changed m (scoped ys b)) e s
     ∙ sym (cond-true (ltb (length b.scope) 4) (changed (length b.scope) (scoped (b.scope ++ x ∷ []) b)) (unfit (OverLimit p)) (ap (λ m. ltb m 4) (sym e) ∙ h))
 
-pub bound_over : (x : List ℕ) (p n : ℕ) (b : Body) → n ≡ length b.scope → ltb n 4 ≡ false → unfit (OverLimit p) ≡ bound x p b
-unfolding bound
-bound_over x p n b e h = sym (cond-false (ltb (length b.scope) 4) (changed (length b.scope) (scoped (b.scope ++ x ∷ []) b)) (unfit (OverLimit p)) (ap (λ m. ltb m 4) (sym e) ∙ h))
+pub binding : (x : Name) (p n : ℕ) (s t : Sketch) → n ≡ s.scope.len → ltb n 4 ≡ true → t.draft ≡ s.draft → t.parts ≡ s.parts → t.scope.items ≡ s.scope.items ++ record { name = x } ∷ [] → changed n (body t) ≡ bound (spelling x) p (body s)
+unfolding body
+binding x p n s t e h d q i =
+    (λ j. changed n (record {
+      atoms = atoms_of (d j).signature.declared;
+      relations = relations_of (d j).signature.declared;
+      horizon = (d j).signature.horizon;
+      nodes = nodes_of (d j);
+      sorts = sorts_of (d j);
+      scope = map name_of_variable t.scope.items;
+      parts = q j;
+    }))
+    ∙ bound_more (spelling x) p n (map name_of_variable t.scope.items) (body s) (e ∙ sym (mapped_len name_of_variable s.scope)) h
+    (ap (map name_of_variable) i ∙ map_push name_of_variable s.scope.items (record { name = x }))
+
+-- none more
+pub not_binding : (x : List ℕ) (p n : ℕ) (f : Fault) (s : Sketch) → n ≡ s.scope.len → ltb n 4 ≡ false → f ≡ OverLimit p → unfit f ≡ bound x p (body s)
+unfolding body bound
+not_binding x p n f s e h g =
+    let m = e ∙ sym (mapped_len name_of_variable s.scope) in
+    ap unfit g
+    ∙ sym (cond-false (ltb (length (body s).scope) 4) (changed (length (body s).scope) (scoped ((body s).scope ++ x ∷ []) (body s))) (unfit (OverLimit p)) (ap (λ k. ltb k 4) (sym m) ∙ h))
 
 -- what a name stands for
 pub resolved_variable : (x : List ℕ) (p v : ℕ) (b : Body) → Some v ≡ index_of x b.scope → Ok (meant (node.Variable v) 1) ≡ resolved x p b

@@ -4,47 +4,44 @@ ghost use Rattle.formulas.specs.Bodies.{body, Open};
 ghost use Rattle.formulas.specs.Outcomes.{told};
 ghost use Rattle.problem.specs.Sorts.{most_parts};
 ghost use Rattle.names.specs.Names.{spelling};
-ghost use Rattle.formulas.specs.Expressions.{primary as primary_of, primed, begun, turned as turned_of, bracketed, at_end, combined as combined_of, prime as prime_of, primes as primes_of, expression as expression_of, after_name};
+ghost use Rattle.formulas.specs.Expressions.{primary as primary_of, primed, begun, bracketed, at_end, combined as combined_of, prime as prime_of, primes as primes_of, expression as expression_of, after_name};
 ghost use Rattle.formulas.specs.Parsers.{answer, from};
 
-use super::parser::Parser;
-use super::sketch::{Bracket, close, open};
+use super::parser::{Nesting, Parser};
+use super::sketch::{Bracket, open};
 use super::start::{Head, head_of, operator_of};
 use super::wish::{Wish, Wishes, ask};
 use faults::Fault;
-use problem::{Kind, MOST_PARTS, Node, Turn};
+use problem::{Kind, MOST_PARTS, Node};
 use stack::Stack;
 use tokens::{Mark, PlacedName};
 
 impl Parser<'_> {
     // Reads an expression of the arity that is wished for.
-    #[cycle(begin_bracketed_expression_primary_turned)]
+    #[cycle(begin_bracketed_expression_primary)]
     pub fn expression(
         &mut self,
-        brackets: &mut Stack<'_, Bracket>,
-        levels: usize,
+        nesting: Nesting<'_, '_>,
         wish: Option<Wish>,
     ) -> Result<usize, Fault>
-        ensures { answer result self.new brackets.new ≡ from self.old brackets.old (expression_of levels wish) }
+        ensures { answer result self.new nesting.exit.0.now ≡ from self.old nesting.entry.brackets.now (expression_of nesting.entry.levels wish) }
     {
+        let Nesting { brackets, levels } = nesting;
         let place = self.tokens.place();
-        let part = self.primary(brackets, levels, Wishes::of_whole(wish))?;
+        let part = self.primary(Nesting { brackets, levels }, Wishes::of_whole(wish))?;
         self.primes(place, wish, part)
     }
 
     // Reads an expression that begins with a name, after the name.
-    pub fn after_name(
-        &mut self,
-        brackets: &mut Stack<'_, Bracket>,
-        placed: PlacedName,
-    ) -> Result<usize, Fault>
-        ensures { answer result self.new brackets.new ≡ from self.old brackets.old (after_name (spelling placed.name) placed.place) }
+    pub fn after_name(&mut self, placed: PlacedName) -> Result<usize, Fault>
+        ensures { (o : Open) → told result (cursor self.new.tokens) (body self.new.sketch) o ≡ after_name (spelling placed.name) placed.place (cursor self.old.tokens) (body self.old.sketch) o }
     {
         let part = self.sketch.named(placed, Wishes::of_whole(None))?;
         self.primes(placed.place, None, part)
     }
 
     // Reads the ' signs after an expression whose first token is at a place.
+    #[tactic(auto, using(crate::proofs::Levels::primes_none, crate::proofs::Levels::primes_end, crate::proofs::Levels::primes_more, crate::proofs::Levels::primes_fail))]
     fn primes(&mut self, place: usize, wish: Option<Wish>, part: usize) -> Result<usize, Fault>
         ensures { (o : Open) → told result (cursor self.new.tokens) (body self.new.sketch) o ≡ primes_of most_parts place wish part (cursor self.old.tokens) (body self.old.sketch) o }
     {
@@ -59,31 +56,22 @@ impl Parser<'_> {
     }
 
     // Reads a part without its ' signs, at most so many levels deep.
-    #[cycle(begin_bracketed_expression_primary_turned)]
-    fn primary(
-        &mut self,
-        brackets: &mut Stack<'_, Bracket>,
-        levels: usize,
-        wishes: Wishes,
-    ) -> Result<usize, Fault>
-        ensures { answer result self.new brackets.new ≡ from self.old brackets.old (primary_of levels wishes.under wishes.whole) }
+    #[tactic(auto, using(crate::proofs::Levels::primary_none, crate::proofs::Levels::primary_more))]
+    #[cycle(begin_bracketed_expression_primary)]
+    fn primary(&mut self, nesting: Nesting<'_, '_>, wishes: Wishes) -> Result<usize, Fault>
+        ensures { answer result self.new nesting.exit.0.now ≡ from self.old nesting.entry.brackets.now (primary_of nesting.entry.levels wishes.under wishes.whole) }
     {
-        if levels == 0 {
-            return Err(self.tokens.refuse());
-        }
-        self.begin(brackets, levels - 1, wishes)
+        let Nesting { brackets, levels } = nesting;
+        let levels = self.deeper(levels)?;
+        self.begin(Nesting { brackets, levels }, wishes)
     }
 
     // Reads a part by what it begins with.
-    #[cycle(begin_bracketed_expression_primary_turned)]
-    fn begin(
-        &mut self,
-        brackets: &mut Stack<'_, Bracket>,
-        levels: usize,
-        wishes: Wishes,
-    ) -> Result<usize, Fault>
-        ensures { answer result self.new brackets.new ≡ from self.old brackets.old (begun (primary_of levels) wishes.under wishes.whole) }
+    #[cycle(begin_bracketed_expression_primary)]
+    fn begin(&mut self, nesting: Nesting<'_, '_>, wishes: Wishes) -> Result<usize, Fault>
+        ensures { answer result self.new nesting.exit.0.now ≡ from self.old nesting.entry.brackets.now (begun (primary_of nesting.entry.levels) wishes.under wishes.whole) }
     {
+        let Nesting { brackets, levels } = nesting;
         let place = self.tokens.place();
         let seen = head_of(&self.tokens);
         let head = self.tokens.take(seen)?;
@@ -96,51 +84,36 @@ impl Parser<'_> {
                 let wishes = self.at_end(wishes);
                 self.sketch.constant(constant, place, wishes)
             }
-            Head::Turn(turn) => self.turned(brackets, levels, turn, place, wishes.whole),
-            Head::Open => self.bracketed(brackets, levels, place, wishes),
+            Head::Turn(turn) => {
+                self.sketch.count(place)?;
+                let wishes = Wishes {
+                    under: Some(Wish { arity: 2, place }),
+                    whole: wishes.whole,
+                };
+                let operand = self.primary(Nesting { brackets, levels }, wishes)?;
+                self.sketch
+                    .put(Kind::Expression, Node::Turned(turn, operand), place)
+            }
+            Head::Open => self.bracketed(Nesting { brackets, levels }, place, wishes),
         }
     }
 
-    // Reads the operand of a sign before it.
-    #[cycle(begin_bracketed_expression_primary_turned)]
-    fn turned(
-        &mut self,
-        brackets: &mut Stack<'_, Bracket>,
-        levels: usize,
-        turn: Turn,
-        place: usize,
-        whole: Option<Wish>,
-    ) -> Result<usize, Fault>
-        ensures { answer result self.new brackets.new ≡ from self.old brackets.old (turned_of (primary_of levels) turn place whole) }
-    {
-        self.sketch.count(place)?;
-        let wishes = Wishes {
-            under: Some(Wish { arity: 2, place }),
-            whole,
-        };
-        let operand = self.primary(brackets, levels, wishes)?;
-        self.sketch
-            .put(Kind::Expression, Node::Turned(turn, operand), place)
-    }
-
     // Reads two expressions and the sign between them, after the bracket that opens.
-    #[cycle(begin_bracketed_expression_primary_turned)]
+    #[cycle(begin_bracketed_expression_primary)]
     fn bracketed(
         &mut self,
-        brackets: &mut Stack<'_, Bracket>,
-        levels: usize,
+        nesting: Nesting<'_, '_>,
         place: usize,
         wishes: Wishes,
     ) -> Result<usize, Fault>
-        ensures { answer result self.new brackets.new ≡ from self.old brackets.old (bracketed (expression_of levels) place wishes.under wishes.whole) }
+        ensures { answer result self.new nesting.exit.0.now ≡ from self.old nesting.entry.brackets.now (bracketed (expression_of nesting.entry.levels) place wishes.under wishes.whole) }
     {
+        let Nesting { brackets, levels } = nesting;
         open(brackets, place)?;
-        let left = self.expression(brackets, levels, None)?;
-        let at = self.tokens.place();
+        let left = self.expression(Nesting { brackets, levels }, None)?;
         let seen = operator_of(&self.tokens);
-        let operator = self.tokens.take(seen)?;
-        self.sketch.count(at)?;
-        let right = self.expression(brackets, levels, None)?;
+        let operator = self.sign(seen)?;
+        let right = self.expression(Nesting { brackets, levels }, None)?;
         self.combined(brackets, Node::Combined(operator, left, right), wishes)
     }
 
@@ -153,10 +126,7 @@ impl Parser<'_> {
     ) -> Result<usize, Fault>
         ensures { answer result self.new brackets.new ≡ from self.old brackets.old (combined_of node wishes.under wishes.whole) }
     {
-        let Some(place) = close(brackets) else {
-            return Err(self.tokens.refuse());
-        };
-        self.tokens.expect(Mark::CloseBracket)?;
+        let place = self.close(brackets, Mark::CloseBracket)?;
         let whole = self.sketch.put(Kind::Expression, node, place)?;
         let arity = self.sketch.arity(whole);
         let asked = self.at_end(wishes);

@@ -1,11 +1,11 @@
 ghost use Rattle.std.specs.Prelude.{◌≡◌};
 ghost use Rattle.names.specs.Names.{spelling};
 ghost use Rattle.formulas.specs.Expressions.{expression as expression_of, after_name};
-ghost use Rattle.formulas.specs.Formulas.{formula as formula_of, begun, prefixed as prefixed_of, joined as joined_of, close_joined, tested as tested_of, compared as compared_of, all as all_of, some as some_of, some_named, domain as domain_of, scope as scope_of};
+ghost use Rattle.formulas.specs.Formulas.{formula as formula_of, begun, prefixed as prefixed_of, joined as joined_of, tested as tested_of, compared as compared_of, all as all_of, some as some_of, some_named, domain as domain_of, scope as scope_of};
 ghost use Rattle.formulas.specs.Parsers.{answer, from};
 
-use super::parser::Parser;
-use super::sketch::{Bracket, close, open};
+use super::parser::{Nesting, Parser};
+use super::sketch::{Bracket, open};
 use super::start::{Start, comparison_of, infix_of, start_of};
 use super::wish::Wish;
 use faults::Fault;
@@ -23,51 +23,48 @@ struct Opening {
 
 impl Parser<'_> {
     // Reads a formula, at most so many levels deep.
+    #[tactic(auto, using(crate::proofs::Levels::formula_none, crate::proofs::Levels::formula_more))]
     #[cycle(all_domain_formula_joined_prefixed_scope_some_some_named_start)]
-    pub fn formula(
-        &mut self,
-        brackets: &mut Stack<'_, Bracket>,
-        levels: usize,
-    ) -> Result<usize, Fault>
-        ensures { answer result self.new brackets.new ≡ from self.old brackets.old (formula_of levels) }
+    pub fn formula(&mut self, nesting: Nesting<'_, '_>) -> Result<usize, Fault>
+        ensures { answer result self.new nesting.exit.0.now ≡ from self.old nesting.entry.brackets.now (formula_of nesting.entry.levels) }
     {
-        if levels == 0 {
-            return Err(self.tokens.refuse());
-        }
-        self.start(brackets, levels - 1)
+        let Nesting { brackets, levels } = nesting;
+        let levels = self.deeper(levels)?;
+        self.start(Nesting { brackets, levels })
     }
 
     // Reads a formula by what it begins with.
     #[cycle(all_domain_formula_joined_prefixed_scope_some_some_named_start)]
-    fn start(&mut self, brackets: &mut Stack<'_, Bracket>, levels: usize) -> Result<usize, Fault>
-        ensures { answer result self.new brackets.new ≡ from self.old brackets.old (begun (expression_of levels) after_name (formula_of levels)) }
+    fn start(&mut self, nesting: Nesting<'_, '_>) -> Result<usize, Fault>
+        ensures { answer result self.new nesting.exit.0.now ≡ from self.old nesting.entry.brackets.now (begun (expression_of nesting.entry.levels) after_name (formula_of nesting.entry.levels)) }
     {
+        let Nesting { brackets, levels } = nesting;
         let place = self.tokens.place();
         match start_of(&self.tokens) {
             Start::Prefix(prefix) => {
                 self.tokens.advance();
-                self.prefixed(brackets, levels, prefix, place)
+                self.prefixed(Nesting { brackets, levels }, prefix, place)
             }
             Start::Open => {
                 self.tokens.advance();
-                self.joined(brackets, levels, place)
+                self.joined(Nesting { brackets, levels }, place)
             }
             Start::All => {
                 self.tokens.advance();
                 self.sketch.count(place)?;
-                self.all(brackets, levels, place)
+                self.all(Nesting { brackets, levels }, place)
             }
             Start::Some => {
                 self.tokens.advance();
                 self.sketch.count(place)?;
-                self.some(brackets, levels, place)
+                self.some(Nesting { brackets, levels }, place)
             }
             Start::No => {
                 self.tokens.advance();
                 self.sketch.count(place)?;
-                self.tested(brackets, levels, Test::No, place)
+                self.tested(Nesting { brackets, levels }, Test::No, place)
             }
-            Start::Expression => self.compared(brackets, levels),
+            Start::Expression => self.compared(Nesting { brackets, levels }),
         }
     }
 
@@ -75,81 +72,56 @@ impl Parser<'_> {
     #[cycle(all_domain_formula_joined_prefixed_scope_some_some_named_start)]
     fn prefixed(
         &mut self,
-        brackets: &mut Stack<'_, Bracket>,
-        levels: usize,
+        nesting: Nesting<'_, '_>,
         prefix: Prefix,
         place: usize,
     ) -> Result<usize, Fault>
-        ensures { answer result self.new brackets.new ≡ from self.old brackets.old (prefixed_of (formula_of levels) prefix place) }
+        ensures { answer result self.new nesting.exit.0.now ≡ from self.old nesting.entry.brackets.now (prefixed_of (formula_of nesting.entry.levels) prefix place) }
     {
+        let Nesting { brackets, levels } = nesting;
         self.sketch.count(place)?;
-        let inner = self.formula(brackets, levels)?;
+        let inner = self.formula(Nesting { brackets, levels })?;
         self.sketch
             .put(Kind::Formula, Node::Prefixed(prefix, inner), place)
     }
 
     // Reads two formulas and the word between them, after the bracket that opens.
     #[cycle(all_domain_formula_joined_prefixed_scope_some_some_named_start)]
-    fn joined(
-        &mut self,
-        brackets: &mut Stack<'_, Bracket>,
-        levels: usize,
-        place: usize,
-    ) -> Result<usize, Fault>
-        ensures { answer result self.new brackets.new ≡ from self.old brackets.old (joined_of (formula_of levels) place) }
+    fn joined(&mut self, nesting: Nesting<'_, '_>, place: usize) -> Result<usize, Fault>
+        ensures { answer result self.new nesting.exit.0.now ≡ from self.old nesting.entry.brackets.now (joined_of (formula_of nesting.entry.levels) place) }
     {
+        let Nesting { brackets, levels } = nesting;
         open(brackets, place)?;
-        let left = self.formula(brackets, levels)?;
-        let at = self.tokens.place();
+        let left = self.formula(Nesting { brackets, levels })?;
         let seen = infix_of(&self.tokens);
-        let infix = self.tokens.take(seen)?;
-        self.sketch.count(at)?;
-        let right = self.formula(brackets, levels)?;
-        self.close_joined(brackets, Node::Joined(infix, left, right))
-    }
-
-    // Reads the bracket that closes, and puts what stands in the brackets.
-    fn close_joined(
-        &mut self,
-        brackets: &mut Stack<'_, Bracket>,
-        node: Node,
-    ) -> Result<usize, Fault>
-        ensures { answer result self.new brackets.new ≡ from self.old brackets.old (close_joined node) }
-    {
-        let Some(place) = close(brackets) else {
-            return Err(self.tokens.refuse());
-        };
-        self.tokens.expect(Mark::CloseParen)?;
-        self.sketch.put(Kind::Formula, node, place)
+        let infix = self.sign(seen)?;
+        let right = self.formula(Nesting { brackets, levels })?;
+        let opened_at = self.close(brackets, Mark::CloseParen)?;
+        self.sketch
+            .put(Kind::Formula, Node::Joined(infix, left, right), opened_at)
     }
 
     // Reads the expression that is asked about.
-    fn tested(
-        &mut self,
-        brackets: &mut Stack<'_, Bracket>,
-        levels: usize,
-        test: Test,
-        place: usize,
-    ) -> Result<usize, Fault>
-        ensures { answer result self.new brackets.new ≡ from self.old brackets.old (tested_of (expression_of levels) test place) }
+    fn tested(&mut self, nesting: Nesting<'_, '_>, test: Test, place: usize) -> Result<usize, Fault>
+        ensures { answer result self.new nesting.exit.0.now ≡ from self.old nesting.entry.brackets.now (tested_of (expression_of nesting.entry.levels) test place) }
     {
-        let part = self.expression(brackets, levels, None)?;
+        let Nesting { brackets, levels } = nesting;
+        let part = self.expression(Nesting { brackets, levels }, None)?;
         self.sketch
             .put(Kind::Formula, Node::Tested(test, part), place)
     }
 
     // Reads two expressions and the word or sign between them.
-    fn compared(&mut self, brackets: &mut Stack<'_, Bracket>, levels: usize) -> Result<usize, Fault>
-        ensures { answer result self.new brackets.new ≡ from self.old brackets.old (compared_of (expression_of levels)) }
+    fn compared(&mut self, nesting: Nesting<'_, '_>) -> Result<usize, Fault>
+        ensures { answer result self.new nesting.exit.0.now ≡ from self.old nesting.entry.brackets.now (compared_of (expression_of nesting.entry.levels)) }
     {
+        let Nesting { brackets, levels } = nesting;
         let place = self.tokens.place();
-        let left = self.expression(brackets, levels, None)?;
-        let at = self.tokens.place();
+        let left = self.expression(Nesting { brackets, levels }, None)?;
         let seen = comparison_of(&self.tokens);
-        let comparison = self.tokens.take(seen)?;
-        self.sketch.count(at)?;
+        let comparison = self.sign(seen)?;
         let arity = self.sketch.arity(left);
-        let right = self.expression(brackets, levels, Some(Wish { arity, place }))?;
+        let right = self.expression(Nesting { brackets, levels }, Some(Wish { arity, place }))?;
         self.sketch.put(
             Kind::Formula,
             Node::Compared(comparison, left, right),
@@ -159,91 +131,75 @@ impl Parser<'_> {
 
     // Reads the variable, domain and body of a quantifier, after its word.
     #[cycle(all_domain_formula_joined_prefixed_scope_some_some_named_start)]
-    fn all(
-        &mut self,
-        brackets: &mut Stack<'_, Bracket>,
-        levels: usize,
-        place: usize,
-    ) -> Result<usize, Fault>
-        ensures { answer result self.new brackets.new ≡ from self.old brackets.old (all_of (expression_of levels) (formula_of levels) place) }
+    fn all(&mut self, nesting: Nesting<'_, '_>, place: usize) -> Result<usize, Fault>
+        ensures { answer result self.new nesting.exit.0.now ≡ from self.old nesting.entry.brackets.now (all_of (expression_of nesting.entry.levels) (formula_of nesting.entry.levels) place) }
     {
+        let Nesting { brackets, levels } = nesting;
         let opening = Opening {
             quantifier: Quantifier::All,
             place,
             variable: self.tokens.take_name()?,
         };
-        self.domain(brackets, levels, opening)
+        self.domain(Nesting { brackets, levels }, opening)
     }
 
     // Reads a quantifier or an expression, after the word.
     #[cycle(all_domain_formula_joined_prefixed_scope_some_some_named_start)]
-    fn some(
-        &mut self,
-        brackets: &mut Stack<'_, Bracket>,
-        levels: usize,
-        place: usize,
-    ) -> Result<usize, Fault>
-        ensures { answer result self.new brackets.new ≡ from self.old brackets.old (some_of (expression_of levels) (formula_of levels) after_name place) }
+    fn some(&mut self, nesting: Nesting<'_, '_>, place: usize) -> Result<usize, Fault>
+        ensures { answer result self.new nesting.exit.0.now ≡ from self.old nesting.entry.brackets.now (some_of (expression_of nesting.entry.levels) (formula_of nesting.entry.levels) after_name place) }
     {
+        let Nesting { brackets, levels } = nesting;
         if self.tokens.name().is_none() {
-            return self.tested(brackets, levels, Test::Some, place);
+            return self.tested(Nesting { brackets, levels }, Test::Some, place);
         }
         let opening = Opening {
             quantifier: Quantifier::Some,
             place,
             variable: self.tokens.take_name()?,
         };
-        self.some_named(brackets, levels, opening)
+        self.some_named(Nesting { brackets, levels }, opening)
     }
 
     // Reads on after the name that follows "some".
     #[cycle(all_domain_formula_joined_prefixed_scope_some_some_named_start)]
-    fn some_named(
-        &mut self,
-        brackets: &mut Stack<'_, Bracket>,
-        levels: usize,
-        opening: Opening,
-    ) -> Result<usize, Fault>
-        ensures { answer result self.new brackets.new ≡ from self.old brackets.old (some_named (expression_of levels) (formula_of levels) after_name opening.quantifier opening.place (spelling opening.variable.name) opening.variable.place) }
+    fn some_named(&mut self, nesting: Nesting<'_, '_>, opening: Opening) -> Result<usize, Fault>
+        ensures { answer result self.new nesting.exit.0.now ≡ from self.old nesting.entry.brackets.now (some_named (expression_of nesting.entry.levels) (formula_of nesting.entry.levels) after_name opening.quantifier opening.place (spelling opening.variable.name) opening.variable.place) }
     {
+        let Nesting { brackets, levels } = nesting;
         if self.tokens.is(Mark::Colon) {
-            return self.domain(brackets, levels, opening);
+            return self.domain(Nesting { brackets, levels }, opening);
         }
-        let part = self.after_name(brackets, opening.variable)?;
+        let part = self.after_name(opening.variable)?;
         self.sketch.put(Kind::Formula, Node::Tested(Test::Some, part), opening.place)
     }
 
     // Reads the domain and the body of a quantifier, after the variable's name.
     #[cycle(all_domain_formula_joined_prefixed_scope_some_some_named_start)]
-    fn domain(
-        &mut self,
-        brackets: &mut Stack<'_, Bracket>,
-        levels: usize,
-        opening: Opening,
-    ) -> Result<usize, Fault>
-        ensures { answer result self.new brackets.new ≡ from self.old brackets.old (domain_of (expression_of levels) (formula_of levels) opening.quantifier opening.place (spelling opening.variable.name) opening.variable.place) }
+    fn domain(&mut self, nesting: Nesting<'_, '_>, opening: Opening) -> Result<usize, Fault>
+        ensures { answer result self.new nesting.exit.0.now ≡ from self.old nesting.entry.brackets.now (domain_of (expression_of nesting.entry.levels) (formula_of nesting.entry.levels) opening.quantifier opening.place (spelling opening.variable.name) opening.variable.place) }
     {
+        let Nesting { brackets, levels } = nesting;
         self.sketch.bindable(opening.variable)?;
         self.tokens.expect(Mark::Colon)?;
         let place = self.tokens.place();
-        let domain = self.expression(brackets, levels, Some(Wish { arity: 1, place }))?;
+        let domain = self.expression(Nesting { brackets, levels }, Some(Wish { arity: 1, place }))?;
         self.tokens.expect(Mark::Bar)?;
-        self.scope(brackets, levels, opening, domain)
+        self.scope(Nesting { brackets, levels }, opening, domain)
     }
 
     // Reads the body of a quantifier, in which its variable is known.
     #[cycle(all_domain_formula_joined_prefixed_scope_some_some_named_start)]
     fn scope(
         &mut self,
-        brackets: &mut Stack<'_, Bracket>,
-        levels: usize,
+        nesting: Nesting<'_, '_>,
         opening: Opening,
         domain: usize,
     ) -> Result<usize, Fault>
-        ensures { answer result self.new brackets.new ≡ from self.old brackets.old (scope_of (formula_of levels) opening.quantifier opening.place (spelling opening.variable.name) opening.variable.place domain) }
+        ensures { answer result self.new nesting.exit.0.now ≡ from self.old nesting.entry.brackets.now (scope_of (formula_of nesting.entry.levels) opening.quantifier opening.place (spelling opening.variable.name) opening.variable.place domain) }
     {
+        let Nesting { brackets, levels } = nesting;
         let variable = self.sketch.bind(opening.variable)?;
-        let body = self.formula(brackets, levels)?;
+        let body = self.formula(Nesting { brackets, levels })?;
         self.sketch.unbind();
         let node = Node::Quantified {
             quantifier: opening.quantifier,

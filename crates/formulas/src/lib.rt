@@ -8,5 +8,5 @@ mod sketch;
 mod start;
 mod wish;
 
-pub use parser::{MOST_BRACKETS, MOST_LEVELS, Parser};
+pub use parser::{MOST_BRACKETS, MOST_LEVELS, Nesting, Parser};
 pub use sketch::{Bracket, Scope, Sketch};

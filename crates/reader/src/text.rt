@@ -11,7 +11,7 @@ ghost use Rattle.reader.specs.Reading.{contents, contents_of, contents_told, val
 use super::space::Space;
 use declaring::{MOST_TEXT, Reader, read_horizon};
 use faults::Fault;
-use formulas::{Bracket, MOST_BRACKETS, MOST_LEVELS, Parser, Scope, Sketch};
+use formulas::{Bracket, MOST_BRACKETS, MOST_LEVELS, Nesting, Parser, Scope, Sketch};
 use problem::{Draft, Problem, Room};
 use relations::{Declarations, Signature};
 use stack::Stack;
@@ -51,7 +51,7 @@ fn read_problem(
 }
 
 // A formula of which nothing is read, over what is declared.
-#[tactic(auto, unfolding(crate::specs::Reading::unread))]
+#[tactic(auto, using(crate::proofs::Starting::begun_unread, crate::proofs::Starting::begun_scope))]
 fn sketch_over(signature: Signature, room: Room, scope: Scope) -> Sketch
     ensures unread { body result ≡ unread (framed signature) }
     ensures scope { (body result).scope ≡ [] }
@@ -72,6 +72,7 @@ fn read_formula(mut parser: Parser<'_>) -> Result<Problem, Fault>
 }
 
 // Reads the formula.
+#[tactic(auto, using(crate::proofs::Starting::read_alone))]
 fn whole_formula(parser: &mut Parser<'_>) -> Result<usize, Fault>
     requires { (body parser.old.sketch).scope ≡ [] }
     ensures value { told result (cursor parser.new.tokens) (body parser.new.sketch) ≡ formula_only (formula levels (cursor parser.old.tokens) (body parser.old.sketch) no_bracket) }
@@ -79,10 +80,14 @@ fn whole_formula(parser: &mut Parser<'_>) -> Result<usize, Fault>
 {
     let mut places = [Bracket { place: 0 }; MOST_BRACKETS];
     let mut brackets = Stack::new(&mut places);
-    parser.formula(&mut brackets, MOST_LEVELS)
+    parser.formula(Nesting {
+        brackets: &mut brackets,
+        levels: MOST_LEVELS,
+    })
 }
 
 // The problem of a formula that was read.
+#[tactic(auto, using(crate::proofs::Starting::held_whole))]
 fn finish(sketch: Sketch) -> Problem
     requires { Whole (sorts_of sketch.draft) }
     ensures { contents result ≡ contents_of (body sketch) }

@@ -1,4 +1,3 @@
 pub mod Reserved
-pub mod Starts
 pub mod Stream
 pub mod Moving

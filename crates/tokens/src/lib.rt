@@ -8,5 +8,5 @@ mod token;
 mod tokens;
 
 pub use mark::Mark;
-pub use token::{PlacedName, Sign, Spot, Token, Word};
+pub use token::{PlacedName, PlacedNumber, Sign, Spot, Token, Word};
 pub use tokens::Tokens;

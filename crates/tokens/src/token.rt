@@ -58,3 +58,10 @@ pub struct PlacedName {
     pub name: Name,
     pub place: usize,
 }
+
+// A number and where it stands.
+#[derive(Clone, Copy)]
+pub struct PlacedNumber {
+    pub number: usize,
+    pub place: usize,
+}

@@ -1,4 +1,5 @@
-ghost use Rattle.std.specs.Prelude.{◌≡◌, nat_lt};
+ghost use Rattle.std.specs.Prelude.{◌≡◌, nat_lt, true, false, IfOk, IfErr};
+ghost use Rattle.faults.specs.declared.Fault.TheVariants.{OverLimit};
 ghost use Rattle.names.specs.Names.{spelling};
 ghost use Rattle.problem.specs.Sorts.{most_variables};
 ghost use Rattle.formulas.specs.Bodies.{body, begun};
@@ -167,14 +168,13 @@ impl Sketch {
     }
 
     // Brings a variable into scope, and answers its number.
+    #[tactic(auto, using(crate::proofs::Steps::binding, crate::proofs::Steps::not_binding))]
     pub fn bind(&mut self, placed: PlacedName) -> Result<usize, Fault>
         ensures { changes result (body self.new) ≡ binding_of (spelling placed.name) placed.place (body self.old) }
     {
         let PlacedName { name, place } = placed;
         let variable = self.scope.len();
-        if !may_bind(variable) {
-            return Err(Fault::OverLimit { place });
-        }
+        room_for_variable(variable, place)?;
         self.scope.push_reserved(Variable { name });
         Ok(variable)
     }
@@ -188,11 +188,16 @@ impl Sketch {
     }
 }
 
-// Whether there may be one variable more.
-fn may_bind(bound: usize) -> bool
-    ensures { result ≡ nat_lt bound most_variables }
+// Whether there may be one variable more than are bound.
+fn room_for_variable(bound: usize, place: usize) -> Result<(), Fault>
+    ensures room { IfOk result (λ _. nat_lt bound most_variables ≡ true) }
+    ensures full { IfErr result (λ _. nat_lt bound most_variables ≡ false) }
+    ensures fault { IfErr result (λ f. f ≡ OverLimit place) }
 {
-    bound < MOST_VARIABLES
+    if bound >= MOST_VARIABLES {
+        return Err(Fault::OverLimit { place });
+    }
+    Ok(())
 }
 
 // Whether a name may be bound, by whether it is known, and by how many variables are bound.
@@ -202,8 +207,5 @@ fn judge_name(known: bool, bound: usize, place: usize) -> Result<(), Fault>
     if known {
         return Err(Fault::NameKnown { place });
     }
-    if bound >= MOST_VARIABLES {
-        return Err(Fault::OverLimit { place });
-    }
-    Ok(())
+    room_for_variable(bound, place)
 }

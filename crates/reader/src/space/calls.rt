@@ -22,6 +22,7 @@ impl Space {
     }
 
     // The declarations, of which there is none, and what else there is.
+    #[tactic(auto, using(crate::proofs::Starting::nothing_is_known))]
     pub(crate) fn parts(self) -> (Declarations, Room, Scope)
         ensures { known result.0 ≡ nothing_known }
     {

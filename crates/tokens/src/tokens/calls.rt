@@ -9,7 +9,7 @@ ghost use Rattle.tokens.specs.Lexing.{value_of};
 use super::super::lexer::next_token;
 use super::super::mark::Mark;
 use super::super::rest::Rest;
-use super::super::token::{PlacedName, Sign, Spot, Token, Word};
+use super::super::token::{PlacedName, PlacedNumber, Sign, Spot, Token, Word};
 use super::Tokens;
 use faults::Fault;
 use names::Name;
@@ -138,6 +138,19 @@ impl<'a> Tokens<'a> {
         Ok(PlacedName { name, place })
     }
 
+    // Takes the next token, which has to be a number, and answers its value with its place.
+    pub fn take_number(&mut self) -> Result<PlacedNumber, Fault>
+        ensures number { MatchResult result (λ n. Some n.number ≡ number_of (head (cursor self.old))) (λ _. None ≡ number_of (head (cursor self.old))) }
+        ensures place { IfOk result (λ n. n.place ≡ place_of (head (cursor self.old))) }
+        ensures fault { IfErr result (λ f. f ≡ refusal (head (cursor self.old))) }
+        ensures rest { cursor self.new ≡ step (cursor self.old) }
+        ensures shorter { (ahead self.old ≢ []) → bytes_left self.new < bytes_left self.old }
+    {
+        let place = self.place();
+        let number = self.take(self.number())?;
+        Ok(PlacedNumber { number, place })
+    }
+
     // Takes the next token, which has to be that mark, and answers its place.
     #[tactic(auto, unfolding(crate::specs::Cursors::expected))]
     pub fn expect(&mut self, mark: Mark) -> Result<usize, Fault>
@@ -202,7 +215,8 @@ fn mark_of(token: Token<'_>) -> Option<Mark>
     Some(mark)
 }
 
-// The value of a few digits; that no sum is too large depends on how far the loop has come, which the closure of a fold cannot say.
+// The value of a few digits (tried: a fold; its closure may be called only where no sum is too large, which depends on how far it has
+// come, so the goal `fold-requires-clause-callable` was left).
 fn value(digits: &[u8]) -> usize
     requires { length digits.now ≤ 3 }
     ensures { result ≡ value_of digits.now }
