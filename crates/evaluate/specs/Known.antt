@@ -1,9 +1,9 @@
 -- What is worked out once for the expressions that use no variable. Assumes nothing.
-use Rattle.std.specs.Prelude.{◌≡◌, ℕ, ◌*◌, ◌<◌, List, Option, None, Some, true, slice_index_or}
+use Rattle.std.specs.Prelude.{◌≡◌, ℕ, ◌*◌, ◌<◌, ◌≤◌, List, Option, None, Some, true, length, slice_index_or}
 use Rattle.lasso.specs.Lassos.{state_at}
 use Rattle.problem.specs.declared.problem.Problem.{Problem}
 use Rattle.problem.specs.Sorts.{is_expression, sort_at, arity_at, bound_at}
-use Rattle.problem.specs.Problems.{sorts_in}
+use Rattle.problem.specs.Problems.{nodes_in, sorts_in}
 use Rattle.meaning.specs.Tuples.{tuples}
 use Rattle.meaning.specs.Formulas.{arity}
 use Rattle.meaning.specs.Trees.{no_variable}
@@ -12,9 +12,18 @@ use Rattle.table.specs.declared.table.Table.{Table}
 use Rattle.table.specs.Tables.{path_of}
 use Rattle.tuples.specs.declared.packed.Packed.{Packed}
 use Rattle.tuples.specs.Packing.{packed_table}
+use Rattle.evaluate.specs.declared.parts.Closed.{Closed}
 use Rattle.evaluate.specs.declared.kept.States.{States}
 use Rattle.evaluate.specs.declared.few.Entry.{Entry}
 use Rattle.evaluate.specs.Shown.{expr_in}
+
+-- of a problem's node: it is an expression that uses no variable, and its tuples have so many atoms
+pub record ClosedIs (p : Problem) (c : Closed) : Type 0 where
+  pub there : c.node < length (nodes_in p)
+  pub expression : is_expression (sort_at (sorts_in p) c.node) ≡ true
+  pub closed : bound_at (sorts_in p) c.node ≡ 0
+  pub arity : c.arity ≡ arity_at (sorts_in p) c.node
+  pub few : c.arity ≤ 3
 
 -- at each instant of a state, a packed set has the first 4 × k values of an expression over n atoms with no variable bound
 pub record PackedIs {k : ℕ} (n : ℕ) (p : Problem) (t : Table) (node state : ℕ) (x : Packed k) : Type 0 where

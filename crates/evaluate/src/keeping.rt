@@ -1,12 +1,12 @@
-ghost use Rattle.std.specs.Prelude.{◌≡◌, ◌*◌, ◌<◌, ◌≤◌, true, length};
-ghost use Rattle.problem.specs.Sorts.{is_expression, sort_at, arity_at, bound_at};
+ghost use Rattle.std.specs.Prelude.{◌≡◌, ◌*◌, ◌<◌, ◌≤◌, length};
+ghost use Rattle.problem.specs.Sorts.{bound_at};
 ghost use Rattle.problem.specs.Problems.{nodes_in, sorts_in};
 ghost use Rattle.meaning.specs.Tuples.{tuples as tuples_of};
-ghost use Rattle.evaluate.specs.Known.{PackedIs, StatesAre};
+ghost use Rattle.evaluate.specs.Known.{ClosedIs, PackedIs, StatesAre};
 
 use super::evaluator::Evaluator;
 use super::kept::States;
-use super::parts::{closed_arity, is_beside_variable, is_closed};
+use super::parts::{Closed, closed_expression, is_beside_variable, is_closed};
 use lasso::State;
 use table::MOST_STATES;
 use tuples::Packed;
@@ -17,47 +17,43 @@ impl Evaluator<'_> {
         ensures { self.new.setting ≡ self.old.setting }
     {
         'nodes: for node in 0..self.setting.problem.parts().len() {
-            if let Some(arity) = closed_arity(self.setting.problem, node) {
-                self.keep_table(node, arity);
+            if let Some(closed) = closed_expression(self.setting.problem, node) {
+                self.keep_table(closed);
             }
         }
     }
 
     // Works out the expression of a node that uses no variable. One of more than 64 tuples, which have three atoms, takes eight times the
     // room, and is kept only where it is asked for at each binding: as a part of a node that uses a variable.
-    fn keep_table(&mut self, node: usize, arity: usize)
-        requires there { node < length (nodes_in self.old.setting.problem.now) }
-        requires closed { bound_at (sorts_in self.old.setting.problem.now) node ≡ 0 }
-        requires expression { is_expression (sort_at (sorts_in self.old.setting.problem.now) node) ≡ true }
-        requires arity { arity ≡ arity_at (sorts_in self.old.setting.problem.now) node }
-        requires few { arity ≤ 3 }
+    fn keep_table(&mut self, closed: Closed)
+        requires { ClosedIs self.old.setting.problem.now closed }
         ensures { self.new.setting ≡ self.old.setting }
     {
-        if self.setting.atoms.tuples(arity) <= 64 {
-            let states = self.states_of(node, arity);
-            self.tables.put(node, states);
-        } else if is_beside_variable(self.setting.problem, node) {
-            let states = self.states_of(node, arity);
-            self.large.put(node, states);
+        if self.setting.atoms.tuples(closed.arity) <= 64 {
+            let states = self.states_of(closed);
+            self.tables.put(closed.node, states);
+        } else if is_beside_variable(self.setting.problem, closed.node) {
+            let states = self.states_of(closed);
+            self.large.put(closed.node, states);
         }
     }
 
-    // The values of the expression of a node in each state, with no variable bound.
-    fn states_of<const N: usize>(&self, node: usize, arity: usize) -> States<N>
-        requires there { node < length (nodes_in self.now.setting.problem.now) }
-        requires closed { bound_at (sorts_in self.now.setting.problem.now) node ≡ 0 }
-        requires expression { is_expression (sort_at (sorts_in self.now.setting.problem.now) node) ≡ true }
-        requires arity { arity ≡ arity_at (sorts_in self.now.setting.problem.now) node }
-        requires room { tuples_of self.now.setting.atoms.count arity ≤ 4 * N }
-        ensures { StatesAre self.now.setting.atoms.count self.now.setting.problem.now self.now.setting.table.now node result }
+    // The values of an expression that uses no variable, in each state.
+    fn states_of<const N: usize>(&self, closed: Closed) -> States<N>
+        requires closed { ClosedIs self.now.setting.problem.now closed }
+        requires room { tuples_of self.now.setting.atoms.count closed.arity ≤ 4 * N }
+        ensures { StatesAre self.now.setting.atoms.count self.now.setting.problem.now self.now.setting.table.now closed.node result }
     {
         // A loop of its own: a closure for `in_each_state`, or for `array::from_fn`, gets no proof yet where its result alone names N, and
         // a value captured to name it too would be there for that alone.
         let mut values = [Packed::none(); MOST_STATES];
         'states: for s in 0..self.setting.table.shape().states() {
-            values[s] = self.packed(node, State(s));
+            values[s] = self.packed(closed.node, State(s));
         }
-        States { arity, values }
+        States {
+            arity: closed.arity,
+            values,
+        }
     }
 
     // The values of the expression of a node in a state, with no variable bound.

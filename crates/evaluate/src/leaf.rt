@@ -28,7 +28,8 @@ impl Evaluator<'_> {
     }
 
     // In a state, whether the expression of a node has some tuple, or none. It stands outside the closure above, since a proof cannot
-    // name what the first of two calls in a closure gave.
+    // name what the first of two calls in a closure gave. It takes the closure's parts and its state: a struct of them would be put
+    // together there, and read at once.
     fn tested_value(&self, variables: &[usize; 4], test: Test, part: usize, state: State) -> Value
         requires { part < length (nodes_in self.now.setting.problem.now) }
         ensures { ValueIn self.now.setting.table.now state.0 result (λ i. tested_of test (tuples_of self.now.setting.atoms.count (arity (expr_in self.now.setting.problem.now part))) (table_of_node self.now.setting variables.now part i)) }
@@ -57,7 +58,7 @@ impl Evaluator<'_> {
         Row::spread(&values, self.setting.table.shape(), self.setting.window)
     }
 
-    // In a state, whether the expression of one node is in that of another, or the same: the closure's parts and its state.
+    // In a state, whether the expression of one node is in that of another, or the same: the closure's parts and its state, as above.
     fn compared_value(
         &self,
         variables: &[usize; 4],
@@ -120,9 +121,9 @@ impl Evaluator<'_> {
         requires { F.IsAlwaysCallable of_state }
         ensures { (s : ℕ) (d : T) → s < self.now.setting.table.now.shape.states → F.post of_state (record { 0 = s }) (slice_index_or result s d) }
     {
-        // By index: in a loop over `iter_mut().enumerate()` no invariant can name the array that is written, and the closure of
-        // `array::from_fn` would need a test of its own for what lies beyond. Tuples and rows fill their own: one fill for all would be
-        // public, and ask its callers for a closure that may be called.
+        // By index: in a loop over `iter_mut().enumerate()` no invariant can name the array that is written; `array::from_fn` with a test
+        // in its closure was tried in all three fills: it proves, and verdicts took three times as long. Tuples and rows fill their
+        // own: one fill for all would be public, and ask its callers for a closure that may be called.
         let mut values = [blank; MOST_STATES];
         'states: for s in 0..self.setting.table.shape().states() {
             values[s] = of_state(State(s));

@@ -2,8 +2,9 @@ ghost use Rattle.std.specs.Prelude.{◌≡◌, ◌<◌, ◌≤◌, Decides, true
 ghost use Rattle.lasso.specs.Lassos.{following};
 ghost use Rattle.relations.specs.Declarations.{arities};
 ghost use Rattle.relations.specs.Relations.{arity_number};
-ghost use Rattle.problem.specs.Sorts.{node_at, sort_at, arity_at, bound_at, sort_arity, sort_bound, is_expression};
+ghost use Rattle.problem.specs.Sorts.{node_at, bound_at, sort_arity, sort_bound, is_expression};
 ghost use Rattle.problem.specs.Problems.{nodes_in, relations_in, sorts_in};
+ghost use Rattle.evaluate.specs.Known.{ClosedIs};
 
 use lasso::{Shape, State};
 use problem::{Node, Problem, Sort};
@@ -40,11 +41,20 @@ fn bound_of(problem: &Problem, node: usize) -> usize
     problem.sort(node).map_or(0, |sort| sort.bound())
 }
 
-// The arity of an expression that uses no variable.
-pub(crate) fn closed_arity(problem: &Problem, node: usize) -> Option<usize>
-    ensures { IfSome result (λ a. (is_expression (sort_at (sorts_in problem.now) node) ≡ true) × (bound_at (sorts_in problem.now) node ≡ 0) × (a ≡ arity_at (sorts_in problem.now) node) × (a ≤ 3)) }
+// An expression that uses no variable: its node, and how many atoms its tuples have.
+#[derive(Clone, Copy)]
+pub(crate) struct Closed {
+    pub(crate) node: usize,
+    pub(crate) arity: usize,
+}
+
+// What a node is, if it is an expression that uses no variable.
+pub(crate) fn closed_expression(problem: &Problem, node: usize) -> Option<Closed>
+    requires { node < length (nodes_in problem.now) }
+    ensures { IfSome result (λ closed. (closed.node ≡ node) × ClosedIs problem.now closed) }
 {
-    arity_if_closed(problem.sort(node)?)
+    let arity = arity_if_closed(problem.sort(node)?)?;
+    Some(Closed { node, arity })
 }
 
 // The arity of what is an expression that uses no variable: 1 to 3.
@@ -68,12 +78,7 @@ pub(crate) fn is_beside_variable(problem: &Problem, node: usize) -> bool {
 
 // Whether a node is one of the two expressions that another is made of.
 fn is_one_of_two(node: usize, whole: Node) -> bool {
-    match whole {
-        Node::Combined(_, left, right) | Node::Compared(_, left, right) => {
-            left == node || right == node
-        }
-        _ => false,
-    }
+    matches!(whole, Node::Combined(_, left, right) | Node::Compared(_, left, right) if left == node || right == node)
 }
 
 // The atom that a variable is bound to; 0 where there is no such variable.

@@ -1,3 +1,4 @@
 pub mod Folds
 pub mod Rounds
 pub mod Packs
+pub mod Turns

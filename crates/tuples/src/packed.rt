@@ -38,16 +38,16 @@ impl<const N: usize> Packed<N> {
     pub fn tuples(&self, arity: usize, atoms: Atoms) -> Option<Tuples>
         ensures { MatchOption result ((arity ≡ 0) ⊎ (3 < arity)) (λ t. Tabled atoms.count arity (packed_table self.now) t) }
     {
-        if arity == 0 || arity > 3 {
-            return None;
+        match arity {
+            1..=3 => Some(Tuples::tabled(
+                arity,
+                atoms,
+                |r| -> Value
+                    ensures { result ≡ packed_table self.entry.now r }
+                { self.value(r) },
+            )),
+            _ => None,
         }
-        Some(Tuples::tabled(
-            arity,
-            atoms,
-            |r| -> Value
-                ensures { result ≡ packed_table self.entry.now r }
-            { self.value(r) },
-        ))
     }
 
     // The value of a tuple; no beyond the first ones.

@@ -8,10 +8,10 @@ impl Atoms {
     pub fn new(count: usize) -> Option<Atoms>
         ensures { MatchOption result ((count ≡ 0) ⊎ (8 < count)) (λ a. a.count ≡ count) }
     {
-        if count == 0 || count > MOST_ATOMS {
-            return None;
+        match count {
+            1..=MOST_ATOMS => Some(Atoms { count }),
+            _ => None,
         }
-        Some(Atoms { count })
     }
 
     // How many atoms there are, 1 to 8.

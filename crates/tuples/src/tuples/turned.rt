@@ -1,6 +1,6 @@
-ghost use Rattle.std.specs.Prelude.{◌≡◌, ◌≢◌};
+ghost use Rattle.std.specs.Prelude.{◌≡◌, ◌≢◌, ◌≤◌};
 ghost use Rattle.lasso.specs.declared.value.Value.TheVariants.{No};
-ghost use Rattle.meaning.specs.Tables.{transpose_table, round_table, closure_table, turned_table};
+ghost use Rattle.meaning.specs.Tables.{transpose_table, round_table, chains_below, closure_table, turned_table};
 ghost use Rattle.meaning.specs.Laws.{ClosureAtAtoms, TransposeAtAtoms};
 ghost use Rattle.tuples.specs.Tabled.{table_of, Tabled};
 
@@ -49,16 +49,21 @@ impl Tuples {
         self.value_of_two(pair % count, count, pair / count)
     }
 
-    // Chains of pairs: each round lets chains go through one more atom.
+    // Chains of pairs.
     fn chained(&self, atoms: Atoms) -> Tuples
         requires { self.now.arity ≡ 2 }
         ensures { Tabled atoms.count 2 (closure_table atoms.count (table_of self.now)) result }
     {
-        let mut chains = *self;
-        'rounds: for middle in 0..atoms.count() {
-            chains = chains.round(middle, atoms);
-        }
-        chains
+        self.chained_below(atoms.count(), atoms)
+    }
+
+    // Chains of pairs that go through the first atoms: each round lets them go through one more.
+    fn chained_below(&self, rounds: usize, atoms: Atoms) -> Tuples
+        requires pairs { self.now.arity ≡ 2 }
+        requires inside { rounds ≤ atoms.count }
+        ensures { Tabled atoms.count 2 (chains_below atoms.count rounds (table_of self.now)) result }
+    {
+        (0..rounds).fold(*self, |chains, middle| chains.round(middle, atoms))
     }
 
     // Pairs, or two pairs that meet at an atom.

@@ -11,7 +11,7 @@ invariant_of-self c =
     let g = s.setting in
     record {
       known = subst (Right (StatesAre g.atoms.count g.problem.now g.table.now)) (sym c.put.ensures)
-          (put_right (StatesAre g.atoms.count g.problem.now g.table.now) s.tables.items c.args.node c.states_of-states.result s.known c.states_of-states.ensures);
+          (put_right (StatesAre g.atoms.count g.problem.now g.table.now) s.tables.items c.args.closed.node c.states_of-states.result s.known c.states_of-states.ensures);
       listed = s.listed;
       kept = s.kept;
     }
@@ -23,6 +23,6 @@ invariant_of-self-then-is_beside_variable c =
     let states = c.states_of-states-then-is_beside_variable in
     record {
       known = s.known;
-      listed = put_few_right (λ (m : ℕ) (x : Entry (States 128)). StatesAre g.atoms.count g.problem.now g.table.now x.node x.item) s.large.entries _ (record { node = c.args.node; item = states.result }) s.listed (λ m. states.ensures) c.put-then-is_beside_variable.ensures;
+      listed = put_few_right (λ (m : ℕ) (x : Entry (States 128)). StatesAre g.atoms.count g.problem.now g.table.now x.node x.item) s.large.entries _ (record { node = c.args.closed.node; item = states.result }) s.listed (λ m. states.ensures) c.put-then-is_beside_variable.ensures;
       kept = s.kept;
     }

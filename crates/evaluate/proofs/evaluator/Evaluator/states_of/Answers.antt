@@ -6,6 +6,7 @@ use Rattle.evaluate.proofs.evaluator.Evaluator.states_of.Goals as goal
 pub returns : goal.returns
 returns g c =
     let s = c.args.self.now.setting in
+    let of = c.requires.closed in
     let end = ap (λ (x : Shape). x.states) c.shape.ensures.value in
-    states_are s.atoms.count s.problem.now s.table.now c.args.node (record { arity = c.args.arity; values = c.states.values }) c.requires.there c.requires.expression c.requires.closed c.requires.arity c.requires.room
+    states_are s.atoms.count s.problem.now s.table.now c.args.closed.node (record { arity = c.args.closed.arity; values = c.states.values }) of.there of.expression of.closed of.arity c.requires.room
     (λ i beyond l. c.states.invariant.1 i beyond (omega (arith, l, end, c.states-s-end.ensures.value, c.states-test.false)))

@@ -6,4 +6,4 @@ use Rattle.evaluate.proofs.evaluator.Evaluator.states_of.Given as goal
 abbrev pub invariant-states : goal.invariant-states
 invariant-states g l =
     (length l.values ≡ 17)
-    × ((s : ℕ) (beyond : Packed g.row.N) → s < l.s → PackedIs l.self.setting.atoms.count l.self.setting.problem.now l.self.setting.table.now l.node s (slice_index_or l.values s beyond))
+    × ((s : ℕ) (beyond : Packed g.row.N) → s < l.s → PackedIs l.self.setting.atoms.count l.self.setting.problem.now l.self.setting.table.now l.closed.node s (slice_index_or l.values s beyond))
