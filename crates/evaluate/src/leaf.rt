@@ -121,9 +121,9 @@ impl Evaluator<'_> {
         requires { F.IsAlwaysCallable of_state }
         ensures { (s : ℕ) (d : T) → s < self.now.setting.table.now.shape.states → F.post of_state (record { 0 = s }) (slice_index_or result s d) }
     {
-        // By index: in a loop over `iter_mut().enumerate()` no invariant can name the array that is written; `array::from_fn` with a test
-        // in its closure was tried in all three fills: it proves, and verdicts took three times as long. Tuples and rows fill their
-        // own: one fill for all would be public, and ask its callers for a closure that may be called.
+        // By index: in a loop over `iter_mut().enumerate()` no invariant can name the array that is written. `array::from_fn` with a test in
+        // its closure proves, but the closure states more lines than the loop has, and with all three fills verdicts took three times as long.
+        // Tuples and rows fill their own: a shared fill would be public, and ask its callers for a closure that may be called.
         let mut values = [blank; MOST_STATES];
         'states: for s in 0..self.setting.table.shape().states() {
             values[s] = of_state(State(s));

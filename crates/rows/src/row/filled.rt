@@ -11,9 +11,9 @@ impl Row {
         requires { (i : ℕ) → i < window.instants → F.pre value_at i }
         ensures { (i : ℕ) → i < window.instants → F.post value_at i (table_at result.values i) }
     {
-        // By index: in a loop over `iter_mut().enumerate()` no invariant can name the array that is written; `array::from_fn` with a test
-        // in its closure was tried in all three fills: it proves, and verdicts took three times as long. Tuples and the evaluator fill their
-        // own: one fill for all would be public, and ask its callers for a closure that may be called.
+        // By index: in a loop over `iter_mut().enumerate()` no invariant can name the array that is written. `array::from_fn` with a test in
+        // its closure proves, but the closure states more lines than the loop has, and with all three fills verdicts took three times as long.
+        // Tuples and the evaluator fill their own: a shared fill would be public, and ask its callers for a closure that may be called.
         let mut values = [Value::No; MOST_INSTANTS];
         'fill: for i in 0..window.instants() {
             values[i] = value_at(i);

@@ -29,9 +29,9 @@ pub(crate) fn filled<const N: usize, F: Fn(usize) -> Value>(count: usize, value_
     requires callable { F.IsAlwaysCallable value_of }
     ensures { (r : ℕ) (beyond : ValueOf) → r < count → F.post value_of r (slice_index_or result r beyond) }
 {
-    // By index: in a loop over `iter_mut().enumerate()` no invariant can name the array that is written; `array::from_fn` with a test
-    // in its closure was tried in all three fills: it proves, and verdicts took three times as long. Rows and the evaluator fill their
-    // own: one fill for all would be public, and ask its callers for a closure that may be called.
+    // By index: in a loop over `iter_mut().enumerate()` no invariant can name the array that is written. `array::from_fn` with a test in
+    // its closure proves, but the closure states more lines than the loop has, and with all three fills verdicts took three times as long.
+    // Rows and the evaluator fill their own: a shared fill would be public, and ask its callers for a closure that may be called.
     let mut values = [Value::No; N];
     'fill: for r in 0..count {
         values[r] = value_of(r);

@@ -1,6 +1,6 @@
 ghost use Rattle.std.specs.Prelude.{◌≡◌, ◌≢◌, ◌≤◌};
 ghost use Rattle.lasso.specs.declared.value.Value.TheVariants.{No};
-ghost use Rattle.meaning.specs.Tables.{transpose_table, round_table, chains_below, closure_table, turned_table};
+ghost use Rattle.meaning.specs.Tables.{transpose_table, round_table, chains_below, turned_table};
 ghost use Rattle.meaning.specs.Laws.{ClosureAtAtoms, TransposeAtAtoms};
 ghost use Rattle.tuples.specs.Tabled.{table_of, Tabled};
 
@@ -30,7 +30,7 @@ impl Tuples {
     {
         match turn {
             Turn::Transpose => self.transposed(atoms),
-            Turn::Closure => self.chained(atoms),
+            Turn::Closure => self.chained_below(atoms.count(), atoms),
         }
     }
 
@@ -47,14 +47,6 @@ impl Tuples {
     {
         let count = atoms.count();
         self.value_of_two(pair % count, count, pair / count)
-    }
-
-    // Chains of pairs.
-    fn chained(&self, atoms: Atoms) -> Tuples
-        requires { self.now.arity ≡ 2 }
-        ensures { Tabled atoms.count 2 (closure_table atoms.count (table_of self.now)) result }
-    {
-        self.chained_below(atoms.count(), atoms)
     }
 
     // Chains of pairs that go through the first atoms: each round lets them go through one more.
