@@ -15,7 +15,7 @@ use Rattle.problem.specs.Sorts.{wanted, judge, no_sort, sort_at, is_formula, sor
 use Rattle.problem.proofs.Judging.{wanted_inv}
 use Rattle.tokens.specs.declared.mark.Mark.{Mark}
 use Rattle.tokens.specs.declared.mark.Mark.TheVariants as mark
-use Rattle.tokens.specs.Items.{is_mark}
+use Rattle.tokens.specs.Items.{place_of, is_mark}
 use Rattle.tokens.specs.Cursors.{Cursor, head, step, expected}
 use Rattle.formulas.specs.declared.wish.Wish.{Wish}
 use Rattle.formulas.specs.declared.start.Start.{Start}
@@ -27,7 +27,7 @@ use Rattle.tokens.specs.Outcomes as steps
 use Rattle.tokens.specs.Outcomes.{fail, taking, check, Change, changed, unfit, alter}
 use Rattle.formulas.specs.Outcomes.{Outcome, ok, then, next, unless, counted, asked, arities_of, arity_in, placing, putting, leafed, naming, bindable, bound, unbound, closing}
 use Rattle.formulas.specs.Expressions.{Primaries, settle as settle_expression, at_end, named, combined, prime, primes, primed, beginning as beginning_expression, primary, expression, after_name}
-use Rattle.formulas.specs.Formulas.{Formulas, Expressions, settle, tested, domain, some_by, beginning, formula}
+use Rattle.formulas.specs.Formulas.{Formulas, Expressions, settle, tested, range, domain, some_by, beginning, formula}
 
 -- what holds of what is read so far, after a reading that does not fail
 abbrev After : (Body → Type 0) → Outcome ℕ → Type 0
@@ -204,22 +204,25 @@ module _ (xs : List (List ℕ)) (r : Expressions) (R : (w : Option Wish) → Rea
   tested_closed : (t : Test) (p : ℕ) → Reads (Kept xs) (Closed xs) (tested r t p)
   tested_closed t p c b o e = then_after (Kept xs) (Closed xs) _ _ (R None c b o e) (λ i c₁ b₁ o₁ e₁. settle_closed xs _ p c₁ b₁ o₁ e₁)
 
-  domain_closed : (q : Quantifier) (p : ℕ) (x : List ℕ) (s : ℕ) → Reads (Kept xs) (Closed xs) (domain r f q p x s)
-  domain_closed q p x s c b o e =
+  range_closed : (q : Quantifier) (p : ℕ) (x : List ℕ) (s : ℕ) → Reads (Kept xs) (Closed xs) (range r f q p x s)
+  range_closed q p x s c b o e =
       let ys : List (List ℕ) = xs ++ x ∷ [] in
-      check_after (Closed xs) (bindable x s b) c _ (λ _.
-      check_after (Closed xs) (expected mark.Colon (head c)) (step c) _ (λ _.
-      then_after (Kept xs) (Closed xs) _ _ (R _ (step c) b o e) (λ d c₂ b₂ o₂ e₂.
+      then_after (Kept xs) (Closed xs) _ _ (R _ c b o e) (λ d c₂ b₂ o₂ e₂.
       check_after (Closed xs) (expected mark.Bar (head c₂)) (step c₂) _ (λ _.
       alter_after (Kept ys) (Closed xs) (bound x s b₂) _ _ (bound_kept xs x s b₂ e₂) (λ v b₃ e₃.
       then_after (Closed ys) (Closed xs) _ _ (F ys _ b₃ o₂ e₃) (λ i c₄ b₄ o₄ e₄.
-      settle_closed xs _ p c₄ (unbound b₄) o₄ (unbound_kept xs x b₄ e₄.scope)))))))
+      settle_closed xs _ p c₄ (unbound b₄) o₄ (unbound_kept xs x b₄ e₄.scope)))))
+
+  domain_closed : (q : Quantifier) (p : ℕ) (x : List ℕ) (s : ℕ) → Reads (Kept xs) (Closed xs) (domain r f q p x s)
+  domain_closed q p x s c b o e =
+      check_after (Closed xs) (bindable x s b) c _ (λ _.
+      check_after (Closed xs) (expected mark.Colon (head c)) (step c) _ (λ _. range_closed q p x s (step c) b o e))
 
   some_closed : (n : Option (List ℕ)) (p : ℕ) → Reads (Kept xs) (Closed xs) (some_by n r f after_name p)
   some_closed None p c b o e = tested_closed _ p c b o e
   some_closed (Some x) p c b o e =
       cond_after (Closed xs) (is_mark mark.Colon (head (step c))) _ _
-      (domain_closed _ p x _ (step c) b o e)
+      (check_after (Closed xs) (bindable x (place_of (head c)) b) (step (step c)) _ (λ _. range_closed _ p x _ (step (step c)) b o e))
       (then_after (Kept xs) (Closed xs) _ _ (after_name_kept xs x _ (step c) b o e) (λ i c₁ b₁ o₁ e₁. settle_closed xs _ p c₁ b₁ o₁ e₁))
 
   beginning_closed : (s : Start) → Reads (Kept xs) (Closed xs) (beginning r after_name f s)

@@ -68,22 +68,24 @@ abbrev pub scope : Formulas → Quantifier → ℕ → List ℕ → ℕ → ℕ 
 scope f q p x r d c b o =
     alter (bound x r b) c (λ v b₁. then (f c b₁ o) (λ i c₂ b₂ o₂. settle (node.Quantified q v d i) p c₂ (unbound b₂) o₂))
 
+-- E "|" F, after the variable's name x at r and the ":"
+abbrev pub range : Expressions → Formulas → Quantifier → ℕ → List ℕ → ℕ → Formulas
+range e f q p x r c b o =
+    then (e (Some (wish 1 (place_of (head c)))) c b o) (λ d c₂ b₂ o₂.
+    take mark.Bar c₂ (λ _ c₃. scope f q p x r d c₃ b₂ o₂))
+
 -- ":" E "|" F, after the variable's name x at r
 abbrev pub domain : Expressions → Formulas → Quantifier → ℕ → List ℕ → ℕ → Formulas
-domain e f q p x r c b o =
-    check (bindable x r b) c (λ _.
-    take mark.Colon c (λ _ c₁.
-    then (e (Some (wish 1 (place_of (head c₁)))) c₁ b o) (λ d c₂ b₂ o₂.
-    take mark.Bar c₂ (λ _ c₃. scope f q p x r d c₃ b₂ o₂))))
+domain e f q p x r c b o = check (bindable x r b) c (λ _. take mark.Colon c (λ _ c₁. range e f q p x r c₁ b o))
 
 -- "all" NAME ":" E "|" F, after the word
 abbrev pub all : Expressions → Formulas → ℕ → Formulas
 all e f p c b o = taking (name_of (head c)) c (λ x c₁. domain e f quantifier.All p x (place_of (head c)) c₁ b o)
 
--- "some" NAME ":" E "|" F, or "some" E that begins with a NAME, after the name
+-- "some" NAME ":" E "|" F, or "some" E that begins with a NAME, after the name; that it is to be bound shows at the ":"
 abbrev pub some_named : Expressions → Formulas → (List ℕ → ℕ → Formulas) → Quantifier → ℕ → List ℕ → ℕ → Formulas
 some_named e f a q p x r c b o =
-    cond (is_mark mark.Colon (head c)) (domain e f q p x r c b o)
+    cond (is_mark mark.Colon (head c)) (check (bindable x r b) (step c) (λ _. range e f q p x r (step c) b o))
     (then (a x r c b o) (λ i c₁ b₁ o₁. settle (node.Tested test.Some i) p c₁ b₁ o₁))
 
 -- "some", after the word

@@ -1,7 +1,7 @@
 ghost use Rattle.std.specs.Prelude.{◌≡◌};
 ghost use Rattle.names.specs.Names.{spelling};
 ghost use Rattle.formulas.specs.Expressions.{expression as expression_of, after_name};
-ghost use Rattle.formulas.specs.Formulas.{formula as formula_of, begun, prefixed as prefixed_of, joined as joined_of, tested as tested_of, compared as compared_of, all as all_of, some as some_of, some_named, domain as domain_of, scope as scope_of};
+ghost use Rattle.formulas.specs.Formulas.{formula as formula_of, begun, prefixed as prefixed_of, joined as joined_of, tested as tested_of, compared as compared_of, all as all_of, some as some_of, some_named, domain as domain_of, range as range_of, scope as scope_of};
 ghost use Rattle.formulas.specs.Parsers.{answer, from};
 
 use super::parser::{Nesting, Parser};
@@ -24,7 +24,7 @@ struct Opening {
 impl Parser<'_> {
     // Reads a formula, at most so many levels deep.
     #[tactic(auto, using(crate::proofs::Levels::formula_none, crate::proofs::Levels::formula_more))]
-    #[cycle(all_domain_formula_joined_prefixed_scope_some_some_named_start)]
+    #[cycle(all_domain_formula_joined_prefixed_range_scope_some_some_named_start)]
     pub fn formula(&mut self, nesting: Nesting<'_, '_>) -> Result<usize, Fault>
         ensures { answer result self.new nesting.exit.0.now ≡ from self.old nesting.entry.brackets.now (formula_of nesting.entry.levels) }
     {
@@ -34,7 +34,7 @@ impl Parser<'_> {
     }
 
     // Reads a formula by what it begins with.
-    #[cycle(all_domain_formula_joined_prefixed_scope_some_some_named_start)]
+    #[cycle(all_domain_formula_joined_prefixed_range_scope_some_some_named_start)]
     fn start(&mut self, nesting: Nesting<'_, '_>) -> Result<usize, Fault>
         ensures { answer result self.new nesting.exit.0.now ≡ from self.old nesting.entry.brackets.now (begun (expression_of nesting.entry.levels) after_name (formula_of nesting.entry.levels)) }
     {
@@ -69,7 +69,7 @@ impl Parser<'_> {
     }
 
     // Reads the formula after a prefix word.
-    #[cycle(all_domain_formula_joined_prefixed_scope_some_some_named_start)]
+    #[cycle(all_domain_formula_joined_prefixed_range_scope_some_some_named_start)]
     fn prefixed(
         &mut self,
         nesting: Nesting<'_, '_>,
@@ -86,7 +86,7 @@ impl Parser<'_> {
     }
 
     // Reads two formulas and the word between them, after the bracket that opens.
-    #[cycle(all_domain_formula_joined_prefixed_scope_some_some_named_start)]
+    #[cycle(all_domain_formula_joined_prefixed_range_scope_some_some_named_start)]
     fn joined(&mut self, nesting: Nesting<'_, '_>, place: usize) -> Result<usize, Fault>
         ensures { answer result self.new nesting.exit.0.now ≡ from self.old nesting.entry.brackets.now (joined_of (formula_of nesting.entry.levels) place) }
     {
@@ -130,7 +130,7 @@ impl Parser<'_> {
     }
 
     // Reads the variable, domain and body of a quantifier, after its word.
-    #[cycle(all_domain_formula_joined_prefixed_scope_some_some_named_start)]
+    #[cycle(all_domain_formula_joined_prefixed_range_scope_some_some_named_start)]
     fn all(&mut self, nesting: Nesting<'_, '_>, place: usize) -> Result<usize, Fault>
         ensures { answer result self.new nesting.exit.0.now ≡ from self.old nesting.entry.brackets.now (all_of (expression_of nesting.entry.levels) (formula_of nesting.entry.levels) place) }
     {
@@ -144,7 +144,7 @@ impl Parser<'_> {
     }
 
     // Reads a quantifier or an expression, after the word.
-    #[cycle(all_domain_formula_joined_prefixed_scope_some_some_named_start)]
+    #[cycle(all_domain_formula_joined_prefixed_range_scope_some_some_named_start)]
     fn some(&mut self, nesting: Nesting<'_, '_>, place: usize) -> Result<usize, Fault>
         ensures { answer result self.new nesting.exit.0.now ≡ from self.old nesting.entry.brackets.now (some_of (expression_of nesting.entry.levels) (formula_of nesting.entry.levels) after_name place) }
     {
@@ -161,26 +161,37 @@ impl Parser<'_> {
     }
 
     // Reads on after the name that follows "some".
-    #[cycle(all_domain_formula_joined_prefixed_scope_some_some_named_start)]
+    #[cycle(all_domain_formula_joined_prefixed_range_scope_some_some_named_start)]
     fn some_named(&mut self, nesting: Nesting<'_, '_>, opening: Opening) -> Result<usize, Fault>
         ensures { answer result self.new nesting.exit.0.now ≡ from self.old nesting.entry.brackets.now (some_named (expression_of nesting.entry.levels) (formula_of nesting.entry.levels) after_name opening.quantifier opening.place (spelling opening.variable.name) opening.variable.place) }
     {
         let Nesting { brackets, levels } = nesting;
         if self.tokens.is(Mark::Colon) {
-            return self.domain(Nesting { brackets, levels }, opening);
+            self.tokens.advance();
+            self.sketch.bindable(opening.variable)?;
+            return self.range(Nesting { brackets, levels }, opening);
         }
         let part = self.after_name(opening.variable)?;
         self.sketch.put(Kind::Formula, Node::Tested(Test::Some, part), opening.place)
     }
 
     // Reads the domain and the body of a quantifier, after the variable's name.
-    #[cycle(all_domain_formula_joined_prefixed_scope_some_some_named_start)]
+    #[cycle(all_domain_formula_joined_prefixed_range_scope_some_some_named_start)]
     fn domain(&mut self, nesting: Nesting<'_, '_>, opening: Opening) -> Result<usize, Fault>
         ensures { answer result self.new nesting.exit.0.now ≡ from self.old nesting.entry.brackets.now (domain_of (expression_of nesting.entry.levels) (formula_of nesting.entry.levels) opening.quantifier opening.place (spelling opening.variable.name) opening.variable.place) }
     {
         let Nesting { brackets, levels } = nesting;
         self.sketch.bindable(opening.variable)?;
         self.tokens.expect(Mark::Colon)?;
+        self.range(Nesting { brackets, levels }, opening)
+    }
+
+    // Reads the domain and the body of a quantifier, after the colon.
+    #[cycle(all_domain_formula_joined_prefixed_range_scope_some_some_named_start)]
+    fn range(&mut self, nesting: Nesting<'_, '_>, opening: Opening) -> Result<usize, Fault>
+        ensures { answer result self.new nesting.exit.0.now ≡ from self.old nesting.entry.brackets.now (range_of (expression_of nesting.entry.levels) (formula_of nesting.entry.levels) opening.quantifier opening.place (spelling opening.variable.name) opening.variable.place) }
+    {
+        let Nesting { brackets, levels } = nesting;
         let place = self.tokens.place();
         let domain = self.expression(Nesting { brackets, levels }, Some(Wish { arity: 1, place }))?;
         self.tokens.expect(Mark::Bar)?;
@@ -188,7 +199,7 @@ impl Parser<'_> {
     }
 
     // Reads the body of a quantifier, in which its variable is known.
-    #[cycle(all_domain_formula_joined_prefixed_scope_some_some_named_start)]
+    #[cycle(all_domain_formula_joined_prefixed_range_scope_some_some_named_start)]
     fn scope(
         &mut self,
         nesting: Nesting<'_, '_>,

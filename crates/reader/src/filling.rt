@@ -1,4 +1,5 @@
 ghost use Rattle.reader.specs.Reading.{Filled, Answered};
+ghost use Rattle.reader.specs.Settled.{Settled, SettledUnlessMemory};
 
 use super::refusal::Refusal;
 use super::space::Space;
@@ -9,7 +10,8 @@ use std::alloc::Global;
 
 // Reads a text into the problem passed; a refusal leaves that as it was.
 pub fn read(text: &[u8], problem: &mut Problem, heap: Global) -> Result<(), Refusal>
-    ensures { Answered text.now problem.old problem.new result }
+    ensures answer { Answered text.now problem.old problem.new result }
+    ensures settled { SettledUnlessMemory text.now result }
 {
     let space = Space::new(heap)?;
     read_into(text, space, problem)?;
@@ -18,7 +20,8 @@ pub fn read(text: &[u8], problem: &mut Problem, heap: Global) -> Result<(), Refu
 
 // The same with memory that was asked for already.
 pub fn read_into(text: &[u8], space: Space, problem: &mut Problem) -> Result<(), Fault>
-    ensures { Filled text.now problem.old problem.new result }
+    ensures answer { Filled text.now problem.old problem.new result }
+    ensures settled { Settled text.now result }
 {
     *problem = read_text(text, space)?;
     Ok(())

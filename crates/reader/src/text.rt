@@ -7,6 +7,7 @@ ghost use Rattle.formulas.specs.Formulas.{formula, levels};
 ghost use Rattle.tokens.specs.Outcomes.{told};
 ghost use Rattle.declaring.specs.Known.{known, framed};
 ghost use Rattle.reader.specs.Reading.{contents, contents_of, contents_told, value_of, formula_only, no_bracket, formula_text, problem_text, unread, reading};
+ghost use Rattle.reader.specs.Settled.{Settled};
 
 use super::space::Space;
 use declaring::{MOST_TEXT, Reader, read_horizon};
@@ -17,9 +18,18 @@ use relations::{Declarations, Signature};
 use stack::Stack;
 use tokens::{Mark, Tokens};
 
+// What it means that a text is refused.
+#[tactic(auto, using(crate::proofs::Settling::settled))]
+pub(crate) fn read_text(text: &[u8], space: Space) -> Result<Problem, Fault>
+    ensures value { contents_told result ≡ reading text.now }
+    ensures settled { Settled text.now result }
+{
+    problem_in(text, space)
+}
+
 // Reads a text into a new problem.
 #[tactic(auto, unfolding(crate::specs::Reading::reading))]
-pub(crate) fn read_text(text: &[u8], space: Space) -> Result<Problem, Fault>
+fn problem_in(text: &[u8], space: Space) -> Result<Problem, Fault>
     ensures { contents_told result ≡ reading text.now }
 {
     if text.len() > MOST_TEXT {

@@ -1,0 +1,52 @@
+-- What it means that a refusal is settled by a token, whatever comes after it. Assumes nothing.
+use Rattle.std.specs.Prelude.{◌≡◌, ℕ, zero, suc, ◌≤◌, ◌==◌, ◌||◌, Bool, true, List, length, Ok, Err, Result}
+use Rattle.faults.specs.declared.Fault.{Fault}
+use Rattle.faults.specs.Table.{entry}
+use Rattle.tokens.specs.declared.mark.Mark.TheVariants as mark
+use Rattle.tokens.specs.Items.{is_mark}
+use Rattle.tokens.specs.Cursors.{Cursor, cursor_of, head, step}
+use Rattle.tokens.specs.Outcomes.{fail}
+use Rattle.declaring.specs.Sets.{most_text}
+use Rattle.reader.specs.Reading.{nothing_known, problem_text, reading}
+use Rattle.reader.specs.declared.refusal.Refusal.{Refusal}
+use Rattle.reader.specs.declared.refusal.Refusal.TheVariants as refusal
+
+-- after so many tokens
+abbrev pub after : ℕ → Cursor → Cursor
+after zero c = c
+after (suc n) c = after n (step c)
+
+-- so many tokens are the same, at the same places
+abbrev pub Alike : ℕ → Cursor → Cursor → Type 0
+Alike zero c d = Unit {0}
+Alike (suc n) c d = (head c ≡ head d) × Alike n (step c) (step d)
+
+-- a ' sign comes next in both texts or in neither, and the same with a ":"
+abbrev pub Onward : Cursor → Cursor → Type 0
+Onward c d = (is_mark mark.Prime (head c) ≡ is_mark mark.Prime (head d)) × (is_mark mark.Colon (head c) ≡ is_mark mark.Colon (head d))
+
+-- a refusal that the next token may put off: of arities or of past depth, where a ' sign prolongs the part; of these and of an unknown name
+-- after "some", where a ":" makes it the name of a variable
+abbrev pub may_be_put_off : Fault → Bool
+may_be_put_off f = (entry f).number == 6 || ((entry f).number == 7 || (entry f).number == 8)
+
+abbrev pub Ends : Fault → Cursor → Cursor → Type 0
+Ends f c d = may_be_put_off f ≡ true → Onward c d
+
+-- a refusal is settled by one of a text's tokens: every text with the same tokens up to that one is refused with the same fault at the same
+-- place
+pub record SettledByToken (text : List ℕ) (f : Fault) : Type 0 where
+  pub tokens : ℕ
+  pub settles : problem_text (cursor_of text) nothing_known ≡ fail f (after tokens (cursor_of text))
+  pub whatever_follows : (other : List ℕ) → length other ≤ most_text → Alike tokens (cursor_of text) (cursor_of other) → Ends f (after tokens (cursor_of text)) (after tokens (cursor_of other)) → reading other ≡ Err f
+
+-- what is known of an answer to a text that is not too long: a refusal is settled by one of its tokens
+abbrev pub Settled : {X : Type 0} → List ℕ → Result X Fault → Type 0
+Settled text (Ok x) = Unit {0}
+Settled text (Err f) = length text ≤ most_text → SettledByToken text f
+
+-- the same where memory may be wanting
+abbrev pub SettledUnlessMemory : List ℕ → Result (Unit {0}) Refusal → Type 0
+SettledUnlessMemory text (Ok u) = Unit {0}
+SettledUnlessMemory text (Err (refusal.Fault f)) = length text ≤ most_text → SettledByToken text f
+SettledUnlessMemory text (Err (refusal.Memory w)) = Unit {0}
