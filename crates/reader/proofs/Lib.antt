@@ -4,3 +4,8 @@ pub mod Expressions
 pub mod Declaring
 pub mod Formulas
 pub mod Settling
+pub mod Seeing
+pub mod SeenDeclarations
+pub mod SeenExpressions
+pub mod SeenFormulas
+pub mod SeenTexts

@@ -41,7 +41,7 @@ tell_problem k =
     tell_then (λ _ f c₂. formula_text (unread f) c₂) tt tt (tell_horizon k₁) (λ _ f. tell_formula_text (unread f)))
 
 -- the reading of a text that is not too long
-short : (text : List ℕ) → length text ≤ most_text → reading text ≡ value_of (problem_text (cursor_of text) nothing_known)
+pub short : (text : List ℕ) → length text ≤ most_text → reading text ≡ value_of (problem_text (cursor_of text) nothing_known)
 unfolding reading
 short text h = cond-false (nat_lt most_text (length text)) (Err TextTooLong) (value_of (problem_text (cursor_of text) nothing_known)) (go (nat_lt most_text (length text)) refl)
   where

@@ -1,2 +1,4 @@
 pub mod Reading
 pub mod Settled
+pub mod Grammar
+pub mod Beginnings

@@ -33,8 +33,8 @@ may_be_put_off f = (entry f).number == 6 || ((entry f).number == 7 || (entry f).
 abbrev pub Ends : Fault → Cursor → Cursor → Type 0
 Ends f c d = may_be_put_off f ≡ true → Onward c d
 
--- a refusal is settled by one of a text's tokens: every text with the same tokens up to that one is refused with the same fault at the same
--- place
+-- a refusal is settled by one of a text's tokens: every text that is not too long and has the same tokens up to that one is refused with the
+-- same fault at the same place; for some faults, if it goes on alike as far as a ' sign or a ":" is concerned
 pub record SettledByToken (text : List ℕ) (f : Fault) : Type 0 where
   pub tokens : ℕ
   pub settles : problem_text (cursor_of text) nothing_known ≡ fail f (after tokens (cursor_of text))
