@@ -49,7 +49,7 @@ def functions(sources):
     """Each function as (place, parameters, requires)."""
     for name, lines in sources:
         text = "\n".join(lines)
-        for found in re.finditer(r"\bfn (\w+)(<[^(]*>)?\(((?:[^()]|\([^()]*\))*)\)", text):
+        for found in re.finditer(r"\bfn (\w+)(<(?:[^()]|\([^()]*\))*?>)?\(((?:[^()]|\([^()]*\))*)\)", text):
             depth, parameters = 0, 1 if found[3].strip() else 0
             for sign in found[3].rstrip().rstrip(","):
                 depth += sign in "<([{"
