@@ -1,11 +1,6 @@
 pub mod Starting
 pub mod Telling
-pub mod Expressions
 pub mod Declaring
+pub mod Expressions
 pub mod Formulas
 pub mod Settling
-pub mod Seeing
-pub mod SeenDeclarations
-pub mod SeenExpressions
-pub mod SeenFormulas
-pub mod SeenTexts

@@ -1,4 +1,3 @@
 pub mod Reading
-pub mod Settled
 pub mod Grammar
-pub mod Beginnings
+pub mod Settled

@@ -1,13 +1,14 @@
--- What it means that a refusal is settled by a token, whatever comes after it. Assumes nothing.
-use Rattle.std.specs.Prelude.{◌≡◌, ℕ, zero, suc, ◌≤◌, ◌==◌, ◌||◌, Bool, true, List, length, Ok, Err, Result}
+-- What it means that a refusal is settled by a token, and that the tokens before a refused one are right so far. Assumes nothing.
+use Rattle.std.specs.Prelude.{◌≡◌, ℕ, zero, suc, ◌≤◌, ◌==◌, ◌||◌, Bool, true, nat_le, List, [], ◌∷◌, ◌++◌, length, Ok, Err, Result}
 use Rattle.faults.specs.declared.Fault.{Fault}
 use Rattle.faults.specs.Table.{entry}
 use Rattle.tokens.specs.declared.mark.Mark.TheVariants as mark
-use Rattle.tokens.specs.Items.{is_mark}
+use Rattle.tokens.specs.Items.{Item, is_mark, refusal as refusal_of}
 use Rattle.tokens.specs.Cursors.{Cursor, cursor_of, head, step}
 use Rattle.tokens.specs.Outcomes.{fail}
 use Rattle.declaring.specs.Sets.{most_text}
 use Rattle.reader.specs.Reading.{nothing_known, problem_text, reading}
+use Rattle.reader.specs.Grammar.{Text}
 use Rattle.reader.specs.declared.refusal.Refusal.{Refusal}
 use Rattle.reader.specs.declared.refusal.Refusal.TheVariants as refusal
 
@@ -15,6 +16,11 @@ use Rattle.reader.specs.declared.refusal.Refusal.TheVariants as refusal
 abbrev pub after : ℕ → Cursor → Cursor
 after zero c = c
 after (suc n) c = after n (step c)
+
+-- the next tokens, so many
+abbrev pub taken : ℕ → Cursor → List Item
+taken zero c = []
+taken (suc n) c = head c ∷ taken n (step c)
 
 -- so many tokens are the same, at the same places
 abbrev pub Alike : ℕ → Cursor → Cursor → Type 0
@@ -33,12 +39,26 @@ may_be_put_off f = (entry f).number == 6 || ((entry f).number == 7 || (entry f).
 abbrev pub Ends : Fault → Cursor → Cursor → Type 0
 Ends f c d = may_be_put_off f ≡ true → Onward c d
 
+-- a refusal of a token: of the text's bytes, or of one that is not allowed
+abbrev pub is_early : Fault → Bool
+is_early f = nat_le (entry f).number 4
+
+-- the last of so many tokens is refused, and those before it are the beginning of what is wanted
+pub record Refuses (G : List Item → Type 0) (c : Cursor) (f : Fault) (tokens : ℕ) : Type 0 where
+  pub before : ℕ
+  pub last : tokens ≡ suc before
+  pub refused : f ≡ refusal_of (head (after before c))
+  pub rest : List Item
+  pub shape : G (taken before c ++ rest)
+
 -- a refusal is settled by one of a text's tokens: every text that is not too long and has the same tokens up to that one is refused with the
--- same fault at the same place; for some faults, if it goes on alike as far as a ' sign or a ":" is concerned
+-- same fault at the same place, for some faults if it goes on alike as far as a ' sign or a ":" is concerned. A refusal of a token is settled
+-- by that token, and those before it are the beginning of some text of the grammar
 pub record SettledByToken (text : List ℕ) (f : Fault) : Type 0 where
   pub tokens : ℕ
   pub settles : problem_text (cursor_of text) nothing_known ≡ fail f (after tokens (cursor_of text))
   pub whatever_follows : (other : List ℕ) → length other ≤ most_text → Alike tokens (cursor_of text) (cursor_of other) → Ends f (after tokens (cursor_of text)) (after tokens (cursor_of other)) → reading other ≡ Err f
+  pub right_so_far : is_early f ≡ true → Refuses Text (cursor_of text) f tokens
 
 -- what is known of an answer to a text that is not too long: a refusal is settled by one of its tokens
 abbrev pub Settled : {X : Type 0} → List ℕ → Result X Fault → Type 0

@@ -1,6 +1,5 @@
 ghost use Rattle.reader.specs.Reading.{Filled, Answered};
 ghost use Rattle.reader.specs.Settled.{Settled, SettledUnlessMemory};
-ghost use Rattle.reader.specs.Beginnings.{RightSoFar, RightSoFarUnlessMemory};
 
 use super::refusal::Refusal;
 use super::space::Space;
@@ -13,7 +12,6 @@ use std::alloc::Global;
 pub fn read(text: &[u8], problem: &mut Problem, heap: Global) -> Result<(), Refusal>
     ensures answer { Answered text.now problem.old problem.new result }
     ensures settled { SettledUnlessMemory text.now result }
-    ensures right { RightSoFarUnlessMemory text.now result }
 {
     let space = Space::new(heap)?;
     read_into(text, space, problem)?;
@@ -24,7 +22,6 @@ pub fn read(text: &[u8], problem: &mut Problem, heap: Global) -> Result<(), Refu
 pub fn read_into(text: &[u8], space: Space, problem: &mut Problem) -> Result<(), Fault>
     ensures answer { Filled text.now problem.old problem.new result }
     ensures settled { Settled text.now result }
-    ensures right { RightSoFar text.now result }
 {
     *problem = read_text(text, space)?;
     Ok(())

@@ -8,7 +8,6 @@ ghost use Rattle.tokens.specs.Outcomes.{told};
 ghost use Rattle.declaring.specs.Known.{known, framed};
 ghost use Rattle.reader.specs.Reading.{contents, contents_of, contents_told, value_of, formula_only, no_bracket, formula_text, problem_text, unread, reading};
 ghost use Rattle.reader.specs.Settled.{Settled};
-ghost use Rattle.reader.specs.Beginnings.{RightSoFar};
 
 use super::space::Space;
 use declaring::{MOST_TEXT, Reader, read_horizon};
@@ -20,11 +19,10 @@ use stack::Stack;
 use tokens::{Mark, Tokens};
 
 // What it means that a text is refused.
-#[tactic(auto, using(crate::proofs::Settling::settled, crate::proofs::SeenTexts::right_so_far))]
+#[tactic(auto, using(crate::proofs::Settling::settled))]
 pub(crate) fn read_text(text: &[u8], space: Space) -> Result<Problem, Fault>
     ensures value { contents_told result ≡ reading text.now }
     ensures settled { Settled text.now result }
-    ensures right { RightSoFar text.now result }
 {
     problem_in(text, space)
 }
