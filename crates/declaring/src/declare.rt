@@ -48,6 +48,7 @@ impl<'a> Reader<'a> {
     }
 
     // Reads atoms up to the sign that ends them.
+    // No plainer as one loop with the tuples of a set: it would take the test of the end and the reader as closures that are handed `self`.
     #[tactic(auto, using(crate::proofs::Turns::atoms_none, crate::proofs::Turns::atoms_end, crate::proofs::Turns::atoms_more, crate::proofs::Turns::atoms_fail))]
     fn more_atoms(&mut self) -> Result<(), Fault>
         ensures { answer result self.new ≡ from self.old (further_atoms most_text) }

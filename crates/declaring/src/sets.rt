@@ -29,6 +29,7 @@ impl<'a> Reader<'a> {
     }
 
     // Reads the tuples of a set.
+    // No plainer as one loop with the atoms, for the reason at `more_atoms`.
     #[tactic(auto, using(crate::proofs::Turns::tuples_none, crate::proofs::Turns::tuples_end, crate::proofs::Turns::tuples_more, crate::proofs::Turns::tuples_fail))]
     fn tuples(&mut self, arity: Arity, tuples: &mut Tuples) -> Result<(), Fault>
         ensures value { told result (cursor self.new.tokens) (listed tuples.new) ≡ tuples_of most_text (atoms_of self.old.declared) arity (cursor self.old.tokens) (listed tuples.old) }

@@ -41,6 +41,7 @@ impl Parser<'_> {
     }
 
     // Reads the ' signs after an expression whose first token is at a place.
+    // No plainer as one loop with those of a declaration: it would take the test of the end and the reader as closures that are handed `self`.
     #[tactic(auto, using(crate::proofs::Levels::primes_none, crate::proofs::Levels::primes_end, crate::proofs::Levels::primes_more, crate::proofs::Levels::primes_fail))]
     fn primes(&mut self, place: usize, wish: Option<Wish>, part: usize) -> Result<usize, Fault>
         ensures { (o : Open) → told result (cursor self.new.tokens) (body self.new.sketch) o ≡ primes_of most_parts place wish part (cursor self.old.tokens) (body self.old.sketch) o }

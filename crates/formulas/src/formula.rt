@@ -1,4 +1,6 @@
-ghost use Rattle.std.specs.Prelude.{◌≡◌};
+ghost use Rattle.std.specs.Prelude.{◌≡◌, Some, None, IfOk, IfErr, MatchResult};
+ghost use Rattle.tokens.specs.Cursors.{cursor, head, step};
+ghost use Rattle.tokens.specs.Items.{name_of, place_of, refusal};
 ghost use Rattle.names.specs.Names.{spelling};
 ghost use Rattle.formulas.specs.Expressions.{expression as expression_of, after_name};
 ghost use Rattle.formulas.specs.Formulas.{formula as formula_of, begun, prefixed as prefixed_of, joined as joined_of, tested as tested_of, compared as compared_of, all as all_of, some as some_of, some_named, domain as domain_of, range as range_of, scope as scope_of};
@@ -11,7 +13,7 @@ use super::wish::Wish;
 use faults::Fault;
 use problem::{Kind, Node, Prefix, Quantifier, Test};
 use stack::Stack;
-use tokens::{Mark, PlacedName};
+use tokens::{Mark, PlacedName, Tokens};
 
 // How a quantifier begins: its word with its place, and its variable.
 #[derive(Clone, Copy)]
@@ -86,6 +88,7 @@ impl Parser<'_> {
     }
 
     // Reads two formulas and the word between them, after the bracket that opens.
+    // No plainer as one with `bracketed`: what reads a side would be a closure that joins this cycle of calls and is handed `self`.
     #[cycle(all_domain_formula_joined_prefixed_range_scope_some_some_named_start)]
     fn joined(&mut self, nesting: Nesting<'_, '_>, place: usize) -> Result<usize, Fault>
         ensures { answer result self.new nesting.exit.0.now ≡ from self.old nesting.entry.brackets.now (joined_of (formula_of nesting.entry.levels) place) }
@@ -135,11 +138,7 @@ impl Parser<'_> {
         ensures { answer result self.new nesting.exit.0.now ≡ from self.old nesting.entry.brackets.now (all_of (expression_of nesting.entry.levels) (formula_of nesting.entry.levels) place) }
     {
         let Nesting { brackets, levels } = nesting;
-        let opening = Opening {
-            quantifier: Quantifier::All,
-            place,
-            variable: self.tokens.take_name()?,
-        };
+        let opening = read_opening(&mut self.tokens, Quantifier::All, place)?;
         self.domain(Nesting { brackets, levels }, opening)
     }
 
@@ -152,11 +151,7 @@ impl Parser<'_> {
         if self.tokens.name().is_none() {
             return self.tested(Nesting { brackets, levels }, Test::Some, place);
         }
-        let opening = Opening {
-            quantifier: Quantifier::Some,
-            place,
-            variable: self.tokens.take_name()?,
-        };
+        let opening = read_opening(&mut self.tokens, Quantifier::Some, place)?;
         self.some_named(Nesting { brackets, levels }, opening)
     }
 
@@ -220,4 +215,24 @@ impl Parser<'_> {
         };
         self.sketch.put(Kind::Formula, node, opening.place)
     }
+}
+
+// Reads the variable of a quantifier, after its word.
+fn read_opening(
+    tokens: &mut Tokens<'_>,
+    quantifier: Quantifier,
+    place: usize,
+) -> Result<Opening, Fault>
+    ensures variable { MatchResult result (λ o. Some (spelling o.variable.name) ≡ name_of (head (cursor tokens.old))) (λ _. None ≡ name_of (head (cursor tokens.old))) }
+    ensures at { IfOk result (λ o. o.variable.place ≡ place_of (head (cursor tokens.old))) }
+    ensures word { IfOk result (λ o. (o.quantifier ≡ quantifier) × (o.place ≡ place)) }
+    ensures fault { IfErr result (λ f. f ≡ refusal (head (cursor tokens.old))) }
+    ensures rest { cursor tokens.new ≡ step (cursor tokens.old) }
+{
+    let variable = tokens.take_name()?;
+    Ok(Opening {
+        quantifier,
+        place,
+        variable,
+    })
 }

@@ -60,6 +60,7 @@ pub struct PlacedName {
 }
 
 // A number and where it stands.
+// Two structs and not one with a parameter: a name is spoken of by its spelling, a number by its value.
 #[derive(Clone, Copy)]
 pub struct PlacedNumber {
     pub number: usize,

@@ -1,5 +1,6 @@
-ghost use Rattle.std.specs.Prelude.{◌≡◌, Some};
-ghost use Rattle.declaring.specs.Sets.{listed, nothing, noted, earlier, outside_at, outside as outside_of};
+ghost use Rattle.std.specs.Prelude.{◌≡◌, false, min, slice_index_or, filter_map};
+ghost use Rattle.std.specs.List.{reduce, enumerate_from};
+ghost use Rattle.declaring.specs.Sets.{listed, nothing, noted, outside_at, outside as outside_of};
 
 use super::Tuples;
 use relations::{MOST_TUPLES, TupleSet};
@@ -37,39 +38,22 @@ impl Tuples {
     }
 
     // The place of the first tuple that is not in the other set.
-    #[tactic(auto, using(crate::proofs::Strays::stray_step, crate::proofs::Strays::no_stray), unfolding(crate::specs::Sets::listed, crate::specs::Sets::outside))]
     pub fn outside(&self, other: &TupleSet) -> Option<usize>
         ensures { result ≡ outside_of (listed self.now) other.now.held }
     {
-        // Tried: `filter`, `map` and `min`. The search does not prove the chain, and by hand a wrong end would be refused in the
-        // proof's file and not here.
-        let mut first = None;
-        'tuples: for tuple in (0..MOST_TUPLES).rev() {
-            let here = stray(
-                self.set.contains(tuple),
-                other.contains(tuple),
-                self.places[tuple],
-            );
-            first = sooner(here, first);
-        }
-        first
+        self.first_stray(other)
     }
-}
 
-// The place of a tuple that is held and not allowed.
-fn stray(held: bool, allowed: bool, place: usize) -> Option<usize>
-    ensures { result ≡ outside_at held place allowed }
-{
-    (held && !allowed).then_some(place)
-}
-
-// The smaller of two places that may be missing.
-fn sooner(place: Option<usize>, other: Option<usize>) -> Option<usize>
-    ensures { result ≡ earlier place other }
-{
-    match (place, other) {
-        (Some(at), Some(after)) => Some(at.min(after)),
-        (Some(at), None) => Some(at),
-        (None, _) => other,
+    // The smallest of the places of the tuples that are not in the other set.
+    fn first_stray(&self, other: &TupleSet) -> Option<usize>
+        ensures { result ≡ reduce min (filter_map (λ p. outside_at (slice_index_or self.now.set.held p.0 false) p.1 (slice_index_or other.now.held p.0 false)) (enumerate_from 0 self.now.places)) }
+    {
+        self.places
+            .iter()
+            .enumerate()
+            .filter_map(|(tuple, place)| {
+                (self.set.contains(tuple) && !other.contains(tuple)).then_some(*place)
+            })
+            .min()
     }
 }

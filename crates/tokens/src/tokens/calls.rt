@@ -139,6 +139,7 @@ impl<'a> Tokens<'a> {
     }
 
     // Takes the next token, which has to be a number, and answers its value with its place.
+    // No plainer as one: what the two share is the place and `take`, and each says of its own kind what stands there.
     pub fn take_number(&mut self) -> Result<PlacedNumber, Fault>
         ensures number { MatchResult result (λ n. Some n.number ≡ number_of (head (cursor self.old))) (λ _. None ≡ number_of (head (cursor self.old))) }
         ensures place { IfOk result (λ n. n.place ≡ place_of (head (cursor self.old))) }
