@@ -78,14 +78,5 @@ fn open_rows() -> [[Value; MOST_PLACES]; MOST_STATES]
     ensures tall { length result ≡ 17 }
     ensures wide { Wide result }
 {
-    filled(Value::Open)
-}
-
-// Rows of one value. Apart from the above, since the search does not prove facts of seventeen literal rows.
-fn filled(value: Value) -> [[Value; MOST_PLACES]; MOST_STATES]
-    ensures all { value ≡ Open → (s p : ℕ) → value_at result s p ≡ Open }
-    ensures tall { length result ≡ 17 }
-    ensures wide { Wide result }
-{
-    [[value; MOST_PLACES]; MOST_STATES]
+    [[Value::Open; MOST_PLACES]; MOST_STATES]
 }
