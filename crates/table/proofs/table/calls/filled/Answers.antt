@@ -3,7 +3,7 @@ use Rattle.std.proofs.lemmas.List.{get_or-replicate, get_or_past, length-replica
 use Rattle.std.proofs.lemmas.Bool.{cases_lt}
 use Rattle.lasso.specs.declared.value.Value.TheVariants.{Open}
 use Rattle.table.specs.Rows.{value_at}
-use Rattle.table.proofs.table.calls.open_rows.Goals as goal
+use Rattle.table.proofs.table.calls.filled.Goals as goal
 
 all_open : (n m s p : ℕ) → value_at (replicate n (replicate m Open)) s p ≡ Open
 all_open n m s p =
@@ -14,8 +14,10 @@ all_open n m s p =
     (cases_lt s n)
 
 pub returns : goal.returns
-returns c = record {
-  all = all_open 17 768;
-  tall = refl;
-  wide = λ s h. ap length (get_or-replicate 17 s (replicate 768 Open) [] h) ∙ length-replicate 768 Open;
-}
+returns c =
+    let v = c.args.value in
+    record {
+      all = λ e s p. ap (λ x. value_at (replicate 17 (replicate 768 x)) s p) e ∙ all_open 17 768 s p;
+      tall = refl;
+      wide = λ s h. ap length (get_or-replicate 17 s (replicate 768 v) [] h) ∙ length-replicate 768 v;
+    }
