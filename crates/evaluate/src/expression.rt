@@ -16,7 +16,7 @@ impl Evaluator<'_> {
         requires { node < length (nodes_in self.now.setting.problem.now) }
         ensures { ExpressionAt self.now.setting variables.now node state.0 result }
     {
-        // A `match`: the closure of an `unwrap_or_else` would join the recursion, and need a measure of its own.
+        // Tried: `unwrap_or_else`. Its closure joins the recursion: with a measure and clauses of its own, what is returned was left to show.
         match self.kept_expression(node, state) {
             Some(tuples) => tuples,
             None => self.expression_of_parts(variables, node, state),

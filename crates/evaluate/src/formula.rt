@@ -19,7 +19,7 @@ impl Evaluator<'_> {
         requires { node < length (nodes_in self.now.setting.problem.now) }
         ensures { RowIs self.now.setting.window.instants result.values (row_at self.now.setting variables.now node) }
     {
-        // A `match`: the closure of an `unwrap_or_else` would join the recursion, and need a measure of its own.
+        // Tried: `unwrap_or_else`. Its closure joins the recursion: with a measure and clauses of its own, what is returned was left to show.
         match self.kept_row(node) {
             Some(row) => row,
             None => self.formula_of_parts(variables, node),
@@ -72,6 +72,7 @@ impl Evaluator<'_> {
     {
         let members = self.members_of(variables, domain);
         let mut row = of_none(quantifier, self.setting.window);
+        // Tried: `fold`. Its closure joins the recursion: with a measure of its own, that it may be called at each atom was left to show.
         'atoms: for atom in 0..self.setting.atoms.count() {
             let member = self.member_row(&members, atom);
             let inner = bound(variables, variable, atom);

@@ -15,7 +15,7 @@ impl Told<'_> {
     pub(crate) fn first_clash(&self) -> Option<(Instant, usize)>
         ensures { MatchOption result (NoneBefore self.now.problem.now self.now.table.now self.now.table.now.shape.states) (λ f. FirstShown self.now.problem.now self.now.table.now f.0.0 f.1) }
     {
-        // Nested loops left by a label: so the search proves that the first one found is the lowest of the earliest.
+        // Nested loops left by a label with the first contradiction: the project asks for this form here, in the order of what is promised.
         let mut first = None;
         'search: for i in 0..self.table.shape().states() {
             'places: for place in 0..self.table.places() {

@@ -140,6 +140,7 @@ fn latest_at(reader: &mut Reader<'_>, header: Header, place: usize, instant: usi
     ensures { result ≡ latest_of place Open (take (instant + 1) (said reader.old.bytes.now).marks) }
 {
     let mut value = Value::Open;
+    // Tried: `fold`. Its closure writes the reader, and says nothing of how far that is read: what `sure_marks` asks was left to show.
     for _done in 0..instant + 1 {
         value = sure_marks(reader, header.places, place, value);
     }

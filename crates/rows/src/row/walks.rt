@@ -33,7 +33,7 @@ impl Row {
         requires step { (i : ℕ) (v : ValueOf) → i < end → F.pre step i v }
         ensures { (f : ℕ → ValueOf → ValueOf) → StepsBy (F.post step) f → RowIs end result.values (λ i. back f seed (end - i) i) }
     {
-        // By index, as `filled` is, and each value comes of the one after it.
+        // By index, each value from the one after it: in a loop over `iter_mut().enumerate()` no invariant can name the array that is written.
         let mut next = seed;
         let mut values = [Value::No; MOST_INSTANTS];
         'fill: for i in (0..end).rev() {
@@ -52,7 +52,7 @@ impl Row {
         requires { (i : ℕ) (v : ValueOf) → i < window.instants → F.pre step i v }
         ensures { (f : ℕ → ValueOf → ValueOf) → StepsBy (F.post step) f → RowIs window.instants result.values (forth f seed) }
     {
-        // By index, as `filled` is, and each value comes of the one before it.
+        // By index, as above. Tried: one function for both, of the instants as an iterator. That each is below 85 was left to show.
         let mut last = seed;
         let mut values = [Value::No; MOST_INSTANTS];
         'fill: for i in 0..window.instants() {

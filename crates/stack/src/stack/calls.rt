@@ -26,6 +26,7 @@ impl<'a, T: Copy> Stack<'a, T> {
         ensures value { MatchResult result (λ _. Pushed self.old entry self.new) (λ _. NotPushed self.old self.new) }
         ensures named { self.new.items.ghost_name ≡ self.old.items.ghost_name }
     {
+        // By index: std says of a slice's `get_mut` what is there, and nothing of what the slice is after a write.
         if self.count >= self.items.len() {
             return Err(Full);
         }

@@ -81,7 +81,8 @@ fn open_rows() -> [[Value; MOST_PLACES]; MOST_STATES]
     filled(Value::Open)
 }
 
-// Rows of one value. Apart from the above, since the search does not prove facts of seventeen literal rows.
+// Rows of one value.
+// Tried: as part of the above. The search leaves `all` of seventeen literal rows, and by hand a wrong value fails in the proof, not at the code.
 fn filled(value: Value) -> [[Value; MOST_PLACES]; MOST_STATES]
     ensures all { value ≡ Open → (s p : ℕ) → value_at result s p ≡ Open }
     ensures tall { length result ≡ 17 }
