@@ -186,6 +186,7 @@ impl fmt::Display for Answer {
 fn show_trace<W: fmt::Write>(trace: &Trace, f: &mut fmt::Formatter<W>) -> fmt::Result {
     let states = trace.states();
     write!(f, "ok {} {states} {}", trace.places(), trace.loop_start().0)?;
+    // Tried: one function for this loop and that of `known_line`. A `String` fails with an `AllocError`, which is not made from a `fmt::Error`.
     for s in 0..states {
         let held = HeldIn {
             trace,

@@ -16,7 +16,7 @@ impl Evaluator<'_> {
         requires { node < length (nodes_in self.now.setting.problem.now) }
         ensures { ExpressionAt self.now.setting variables.now node state.0 result }
     {
-        // Tried: `unwrap_or_else`. Its closure joins the recursion: with a measure and clauses of its own, what is returned was left to show.
+        // Tried: `unwrap_or_else`. Its closure joins the recursion, and takes a measure and clauses, more lines than these; the search left `returns`.
         match self.kept_expression(node, state) {
             Some(tuples) => tuples,
             None => self.expression_of_parts(variables, node, state),

@@ -19,7 +19,7 @@ impl Evaluator<'_> {
         requires { node < length (nodes_in self.now.setting.problem.now) }
         ensures { RowIs self.now.setting.window.instants result.values (row_at self.now.setting variables.now node) }
     {
-        // Tried: `unwrap_or_else`. Its closure joins the recursion: with a measure and clauses of its own, what is returned was left to show.
+        // Tried: `unwrap_or_else`. Its closure joins the recursion, and takes a measure and clauses, more lines than these; the search left `returns`.
         match self.kept_row(node) {
             Some(row) => row,
             None => self.formula_of_parts(variables, node),
