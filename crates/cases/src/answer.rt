@@ -5,8 +5,8 @@ ghost use Rattle.cases.specs.Answers.{ReadAs, ToRecord, ToLog, ToText, Answers};
 ghost use Rattle.cases.specs.Judgements.{OfPair, ToPair, ToSource};
 
 use super::hex::bytes_of;
-use super::kind::Kind;
 use super::judgement::{NoVerdict, by_log, by_nothing};
+use super::kind::Kind;
 use super::lines::cut;
 use faults::Fault;
 use lasso::{Instant, State, Value};

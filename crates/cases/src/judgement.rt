@@ -17,7 +17,7 @@ pub enum NoVerdict {
     TextRefused(Fault),
     #[error("log refused {} at {}", .0.number(), .0.place())]
     LogRefused(Fault),
-    #[error("{}", InWords { misfit: *.0 })]
+    #[error("{}", InWords {misfit: *.0})]
     Unfit(Fault),
 }
 

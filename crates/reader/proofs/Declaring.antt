@@ -66,17 +66,17 @@ full_tuple = full_then (full_mark mark.OpenParen) (full_then full_name full_seco
 tell_tuple : (ns : List (List ℕ)) (a : Arity) (s : Listed) → Tells starts looks_at_nothing Tuple (λ c. tuple ns a c s)
 tell_tuple ns a s =
     tell_take mark.OpenParen (full_then full_name full_second) (λ p c₁.
-      then (atom_number ns c₁) (λ x c₂ _.
-      then (second_number ns c₂) (λ y c₃ _.
-      take mark.CloseParen c₃ (λ _ c₄.
-      check (ok_or (numbered a (length ns) x y) (ArityMismatch p)) c₄ (λ t. ok tt c₄ (noted t p s)))))) (λ p.
+    then (atom_number ns c₁) (λ x c₂ _.
+    then (second_number ns c₂) (λ y c₃ _.
+    take mark.CloseParen c₃ (λ _ c₄.
+    check (ok_or (numbered a (length ns) x y) (ArityMismatch p)) c₄ (λ t. ok tt c₄ (noted t p s)))))) (λ p.
     tell_then (λ x _ c₂.
-      then (second_number ns c₂) (λ y c₃ _.
-      take mark.CloseParen c₃ (λ _ c₄.
-      check (ok_or (numbered a (length ns) x y) (ArityMismatch p)) c₄ (λ t. ok tt c₄ (noted t p s))))) tt tt (tell_atom_number ns) full_second (λ x _.
+    then (second_number ns c₂) (λ y c₃ _.
+    take mark.CloseParen c₃ (λ _ c₄.
+    check (ok_or (numbered a (length ns) x y) (ArityMismatch p)) c₄ (λ t. ok tt c₄ (noted t p s))))) tt tt (tell_atom_number ns) full_second (λ x _.
     tell_then (λ y _ c₃.
-      take mark.CloseParen c₃ (λ _ c₄.
-      check (ok_or (numbered a (length ns) x y) (ArityMismatch p)) c₄ (λ t. ok tt c₄ (noted t p s)))) tt tt (tell_second_number ns) full_end (λ y _.
+    take mark.CloseParen c₃ (λ _ c₄.
+    check (ok_or (numbered a (length ns) x y) (ArityMismatch p)) c₄ (λ t. ok tt c₄ (noted t p s)))) tt tt (tell_second_number ns) full_end (λ y _.
     tell_map ends (tell_take mark.CloseParen ([], refl) (λ _ c₄. check (ok_or (numbered a (length ns) x y) (ArityMismatch p)) c₄ (λ t. ok tt c₄ (noted t p s))) (λ _.
     tell_check (ok_or (numbered a (length ns) x y) (ArityMismatch p)) (late_tuple (numbered a (length ns) x y) p) (λ t c₄. ok tt c₄ (noted t p s)) (λ t. tell_ok {k = soft} tt (noted t p s) tt refl))))))
 

@@ -110,12 +110,15 @@ tell_at_end {Z} {X} {G} w g h = record { of = λ c. go c (at_end w c) refl (g (a
   where
     same : (c d : Cursor) → is_mark mark.Prime (head c) ≡ is_mark mark.Prime (head d) → at_end w d ≡ at_end w c
     same c d e = ap (λ b. cond b None w) (sym e)
+
     within : (n : ℕ) (c d : Cursor) → Alike n c d → Onward (after n c) (after n d) → at_end w d ≡ at_end w c
     within zero c d a e = same c d e.0
     within (suc n) c d a e = same c d (ap (is_mark mark.Prime) a.0)
+
     early : (n : ℕ) (c d : Cursor) (f : Fault) → ((1 ≤ n) ⊎ (may_be_put_off f ≡ true)) → Alike n c d → Ends f (after n c) (after n d) → at_end w d ≡ at_end w c
     early zero c d f r a e = ⊎_elim (λ z. absurd (omega (arith, z))) (λ s. same c d (e s).0) r
     early (suc n) c d f r a e = same c d (ap (is_mark mark.Prime) a.0)
+
     go : (c : Cursor) (v : Option Wish) → v ≡ at_end w c → (o : steps.Outcome Z X) → Told soft looks_on G (g v) c o → Told soft looks_on G (λ d. g (at_end w d) d) c o
     go c v i o (told_ok {x} {e} {z} t) = told_ok (record { count = t.count; begins = tt; left = t.left; shape = t.shape; again = λ d l n. ap (λ u. g u d) (within t.count c d l (subst (λ q. Onward q (after t.count d)) t.left n) ∙ sym i) ∙ t.again d l n })
     go c v i o (told_fail {f} {e} t) = told_fail (record { count = t.count; ready = t.ready; left = t.left; early = t.early; again = λ d l n. ap (λ u. g u d) (early t.count c d f t.ready l (subst (λ q. Ends f q (after t.count d)) t.left n) ∙ sym i) ∙ t.again d l n })
@@ -191,23 +194,23 @@ full_right = full_then full_exp (full_mark mark.CloseBracket)
 tell_bracketed : (f : Option Wish → Cursor → Body → Open → Outcome ℕ) → Wholes f → (p : ℕ) (u w : Option Wish) (b : Body) (o : Open) → Tells free looks_on Bracketed (λ c. bracketed f p u w c b o)
 tell_bracketed f h p u w b o =
     tell_alter (opened p o) (late_opened p o) (λ _ o₁ c.
-      then (f None c b o₁) (λ x c₂ b₂ o₂.
-      taking (operator_of (head c₂)) c₂ (λ s c₃.
-      alter (counted (place_of (head c₂)) b₂) c₃ (λ _ b₃.
-      then (f None c₃ b₃ o₂) (λ y c₄ b₄ o₄.
-      combined (node.Combined s x y) u w c₄ b₄ o₄))))) (λ _ o₁.
+    then (f None c b o₁) (λ x c₂ b₂ o₂.
+    taking (operator_of (head c₂)) c₂ (λ s c₃.
+    alter (counted (place_of (head c₂)) b₂) c₃ (λ _ b₃.
+    then (f None c₃ b₃ o₂) (λ y c₄ b₄ o₄.
+    combined (node.Combined s x y) u w c₄ b₄ o₄))))) (λ _ o₁.
     tell_then (λ x z c₂.
-      taking (operator_of (head c₂)) c₂ (λ s c₃.
-      alter (counted (place_of (head c₂)) z.0) c₃ (λ _ b₃.
-      then (f None c₃ b₃ z.1) (λ y c₄ b₄ o₄.
-      combined (node.Combined s x y) u w c₄ b₄ o₄)))) tt tt (h None b o₁) (full_then full_operator full_right) (λ x z.
+    taking (operator_of (head c₂)) c₂ (λ s c₃.
+    alter (counted (place_of (head c₂)) z.0) c₃ (λ _ b₃.
+    then (f None c₃ b₃ z.1) (λ y c₄ b₄ o₄.
+    combined (node.Combined s x y) u w c₄ b₄ o₄)))) tt tt (h None b o₁) (full_then full_operator full_right) (λ x z.
     tell_taking operator_of full_operator full_right (λ s i c₃.
-      alter (counted (place_of i) z.0) c₃ (λ _ b₃.
-      then (f None c₃ b₃ z.1) (λ y c₄ b₄ o₄.
-      combined (node.Combined s x y) u w c₄ b₄ o₄))) (λ s i.
+    alter (counted (place_of i) z.0) c₃ (λ _ b₃.
+    then (f None c₃ b₃ z.1) (λ y c₄ b₄ o₄.
+    combined (node.Combined s x y) u w c₄ b₄ o₄))) (λ s i.
     tell_alter (counted (place_of i) z.0) (gentle_late (gentle_counted (place_of i) z.0)) (λ _ b₃ c₃.
-      then (f None c₃ b₃ z.1) (λ y c₄ b₄ o₄.
-      combined (node.Combined s x y) u w c₄ b₄ o₄)) (λ _ b₃.
+    then (f None c₃ b₃ z.1) (λ y c₄ b₄ o₄.
+    combined (node.Combined s x y) u w c₄ b₄ o₄)) (λ _ b₃.
     tell_then (λ y v c₄. combined (node.Combined s x y) u w c₄ v.0 v.1) tt tt (h None b₃ z.1) (full_mark mark.CloseBracket) (λ y v.
     tell_combined (node.Combined s x y) u w v.0 v.1)))))
 

@@ -113,23 +113,23 @@ module _ (e : Expressions) (E : Wholes e) (f : Formulas) (F : Reads f) where
   tell_joined : (p : ℕ) (b : Body) (o : Open) → Tells free looks_on Joined (λ c. joined f p c b o)
   tell_joined p b o =
       tell_alter (opened p o) (late_opened p o) (λ _ o₁ c.
-        then (f c b o₁) (λ x c₂ b₂ o₂.
-        taking (infix_of (head c₂)) c₂ (λ s c₃.
-        alter (counted (place_of (head c₂)) b₂) c₃ (λ _ b₃.
-        then (f c₃ b₃ o₂) (λ y c₄ b₄ o₄.
-        close_joined (node.Joined s x y) c₄ b₄ o₄))))) (λ _ o₁.
+      then (f c b o₁) (λ x c₂ b₂ o₂.
+      taking (infix_of (head c₂)) c₂ (λ s c₃.
+      alter (counted (place_of (head c₂)) b₂) c₃ (λ _ b₃.
+      then (f c₃ b₃ o₂) (λ y c₄ b₄ o₄.
+      close_joined (node.Joined s x y) c₄ b₄ o₄))))) (λ _ o₁.
       tell_then (λ x z c₂.
-        taking (infix_of (head c₂)) c₂ (λ s c₃.
-        alter (counted (place_of (head c₂)) z.0) c₃ (λ _ b₃.
-        then (f c₃ b₃ z.1) (λ y c₄ b₄ o₄.
-        close_joined (node.Joined s x y) c₄ b₄ o₄)))) tt tt (F b o₁) (full_then full_infix full_right) (λ x z.
+      taking (infix_of (head c₂)) c₂ (λ s c₃.
+      alter (counted (place_of (head c₂)) z.0) c₃ (λ _ b₃.
+      then (f c₃ b₃ z.1) (λ y c₄ b₄ o₄.
+      close_joined (node.Joined s x y) c₄ b₄ o₄)))) tt tt (F b o₁) (full_then full_infix full_right) (λ x z.
       tell_taking infix_of full_infix full_right (λ s i c₃.
-        alter (counted (place_of i) z.0) c₃ (λ _ b₃.
-        then (f c₃ b₃ z.1) (λ y c₄ b₄ o₄.
-        close_joined (node.Joined s x y) c₄ b₄ o₄))) (λ s i.
+      alter (counted (place_of i) z.0) c₃ (λ _ b₃.
+      then (f c₃ b₃ z.1) (λ y c₄ b₄ o₄.
+      close_joined (node.Joined s x y) c₄ b₄ o₄))) (λ s i.
       tell_alter (counted (place_of i) z.0) (gentle_late (gentle_counted (place_of i) z.0)) (λ _ b₃ c₃.
-        then (f c₃ b₃ z.1) (λ y c₄ b₄ o₄.
-        close_joined (node.Joined s x y) c₄ b₄ o₄)) (λ _ b₃.
+      then (f c₃ b₃ z.1) (λ y c₄ b₄ o₄.
+      close_joined (node.Joined s x y) c₄ b₄ o₄)) (λ _ b₃.
       tell_then (λ y v c₄. close_joined (node.Joined s x y) c₄ v.0 v.1) tt tt (F b₃ z.1) (full_mark mark.CloseParen) (λ y v.
       tell_close (node.Joined s x y) v.0 v.1)))))
 
@@ -139,23 +139,23 @@ module _ (e : Expressions) (E : Wholes e) (f : Formulas) (F : Reads f) where
   tell_compared : (b : Body) (o : Open) → Tells starts looks_on Compared (λ c. compared e c b o)
   tell_compared b o =
       tell_by place_of (λ p c.
-        then (e None c b o) (λ x c₁ b₁ o₁.
-        taking (comparison_of (head c₁)) c₁ (λ s c₂.
-        alter (counted (place_of (head c₁)) b₁) c₂ (λ _ b₂.
-        then (e (Some (wish (arity_in x b₂) p)) c₂ b₂ o₁) (λ y c₃ b₃ o₃.
-        settle (node.Compared s x y) p c₃ b₃ o₃))))) (λ p.
+      then (e None c b o) (λ x c₁ b₁ o₁.
+      taking (comparison_of (head c₁)) c₁ (λ s c₂.
+      alter (counted (place_of (head c₁)) b₁) c₂ (λ _ b₂.
+      then (e (Some (wish (arity_in x b₂) p)) c₂ b₂ o₁) (λ y c₃ b₃ o₃.
+      settle (node.Compared s x y) p c₃ b₃ o₃))))) (λ p.
       tell_then (λ x z c₁.
-        taking (comparison_of (head c₁)) c₁ (λ s c₂.
-        alter (counted (place_of (head c₁)) z.0) c₂ (λ _ b₂.
-        then (e (Some (wish (arity_in x b₂) p)) c₂ b₂ z.1) (λ y c₃ b₃ o₃.
-        settle (node.Compared s x y) p c₃ b₃ o₃)))) tt tt (E None b o) (full_then full_comparison full_exp) (λ x z.
+      taking (comparison_of (head c₁)) c₁ (λ s c₂.
+      alter (counted (place_of (head c₁)) z.0) c₂ (λ _ b₂.
+      then (e (Some (wish (arity_in x b₂) p)) c₂ b₂ z.1) (λ y c₃ b₃ o₃.
+      settle (node.Compared s x y) p c₃ b₃ o₃)))) tt tt (E None b o) (full_then full_comparison full_exp) (λ x z.
       tell_taking comparison_of full_comparison full_exp (λ s i c₂.
-        alter (counted (place_of i) z.0) c₂ (λ _ b₂.
-        then (e (Some (wish (arity_in x b₂) p)) c₂ b₂ z.1) (λ y c₃ b₃ o₃.
-        settle (node.Compared s x y) p c₃ b₃ o₃))) (λ s i.
+      alter (counted (place_of i) z.0) c₂ (λ _ b₂.
+      then (e (Some (wish (arity_in x b₂) p)) c₂ b₂ z.1) (λ y c₃ b₃ o₃.
+      settle (node.Compared s x y) p c₃ b₃ o₃))) (λ s i.
       tell_alter (counted (place_of i) z.0) (gentle_late (gentle_counted (place_of i) z.0)) (λ _ b₂ c₂.
-        then (e (Some (wish (arity_in x b₂) p)) c₂ b₂ z.1) (λ y c₃ b₃ o₃.
-        settle (node.Compared s x y) p c₃ b₃ o₃)) (λ _ b₂.
+      then (e (Some (wish (arity_in x b₂) p)) c₂ b₂ z.1) (λ y c₃ b₃ o₃.
+      settle (node.Compared s x y) p c₃ b₃ o₃)) (λ _ b₂.
       tell_map ends (tell_then (λ y v c₃. settle (node.Compared s x y) p c₃ v.0 v.1) tt tt (E (Some (wish (arity_in x b₂) p)) b₂ z.1) ([], refl) (λ y v.
       tell_settle (node.Compared s x y) p v.0 v.1))))))
 
@@ -186,9 +186,9 @@ module _ (e : Expressions) (E : Wholes e) (f : Formulas) (F : Reads f) where
 
   somehow : (us : List Item) → Then (One IsName) Named us → Somehow us
   somehow us h = elim h.two [
-      | inl d ↦ inr (record { left = h.left; right = h.right; is = h.is; one = h.one; two = d })
-      | inr m ↦ inl (rw h.is (e_part (p_name h.one) m))
-    ]
+    | inl d ↦ inr (record { left = h.left; right = h.right; is = h.is; one = h.one; two = d })
+    | inr m ↦ inl (rw h.is (e_part (p_name h.one) m))
+  ]
 
   told_some : (p : ℕ) (b : Body) (o : Open) (c : Cursor) (n : Option (List ℕ)) → name_of (head c) ≡ n → Told starts looks_on Somehow (λ d. some_by n e f after_name p d b o) c (some_by n e f after_name p c b o)
   told_some p b o c None t = told_map (λ us h. inl h) ((tell_tested test.Some p b o).of c)
@@ -219,13 +219,13 @@ module _ (e : Expressions) (E : Wholes e) (f : Formulas) (F : Reads f) where
 
   some_form : (us : List Item) → Then (One (λ i. start_of i ≡ start.Some)) Somehow us → Form us
   some_form us h = elim h.two [
-      | inl x ↦ rw (h.is, h.one.is) (f_is_some h.one.item h.one.holds x)
-      | inr a ↦
+    | inl x ↦ rw (h.is, h.one.is) (f_is_some h.one.item h.one.holds x)
+    | inr a ↦
         let b = a.two in
         let d = b.two in
         let g = d.two in
         rw (h.is, h.one.is, a.is, a.one.is, b.is, b.one.is, d.is, g.is, g.one.is) (f_some h.one.item a.one.item b.one.item g.one.item h.one.holds a.one.holds b.one.holds d.one g.one.holds g.two)
-    ]
+  ]
 
   no_form : (us : List Item) → Then (One (λ i. start_of i ≡ start.No)) Exp us → Form us
   no_form us h = rw (h.is, h.one.is) (f_is_no h.one.item h.one.holds h.two)

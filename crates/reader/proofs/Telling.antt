@@ -219,28 +219,28 @@ module _ {Z X : Type 0} {a : Ahead} {G : Shape} {r : Cursor → Outcome Z X} whe
 module _ {Z X : Type 0} {a : Ahead} (g : Item → Cursor → Outcome Z X) where
   pub told_next : {k : Kind} {H : Shape} {P : Item → Type 0} (c : Cursor) {o : Outcome Z X} → P (head c) → Told k a H (g (head c)) (step c) o → Told starts a (Then (One P) H) (λ d. g (head d) (step d)) c o
   told_next c p (told_ok {x} {e} {z} t) = told_ok (record {
-      count = suc t.count;
-      begins = omega arith;
-      left = t.left;
-      shape = record { left = head c ∷ []; right = taken t.count (step c); is = refl; one = record { item = head c; is = refl; holds = p }; two = t.shape };
-      again = λ d l n. subst (λ i. g i (step d) ≡ ok x (after t.count (step d)) z) l.0 (t.again (step d) l.1 n);
-    })
+    count = suc t.count;
+    begins = omega arith;
+    left = t.left;
+    shape = record { left = head c ∷ []; right = taken t.count (step c); is = refl; one = record { item = head c; is = refl; holds = p }; two = t.shape };
+    again = λ d l n. subst (λ i. g i (step d) ≡ ok x (after t.count (step d)) z) l.0 (t.again (step d) l.1 n);
+  })
   told_next c p (told_fail {f} {e} t) = told_fail (record {
-      count = suc t.count;
-      ready = omega arith;
-      left = t.left;
-      early = λ u. let b = t.early u in record { before = suc b.before; last = ap (λ q. suc q) b.last; refused = b.refused; rest = b.rest; shape = record { left = head c ∷ []; right = taken b.before (step c) ++ b.rest; is = refl; one = record { item = head c; is = refl; holds = p }; two = b.shape } };
-      again = λ d l n. subst (λ i. g i (step d) ≡ fail f (after t.count (step d))) l.0 (t.again (step d) l.1 n);
-    })
+    count = suc t.count;
+    ready = omega arith;
+    left = t.left;
+    early = λ u. let b = t.early u in record { before = suc b.before; last = ap (λ q. suc q) b.last; refused = b.refused; rest = b.rest; shape = record { left = head c ∷ []; right = taken b.before (step c) ++ b.rest; is = refl; one = record { item = head c; is = refl; holds = p }; two = b.shape } };
+    again = λ d l n. subst (λ i. g i (step d) ≡ fail f (after t.count (step d))) l.0 (t.again (step d) l.1 n);
+  })
 
   pub told_refused : {G : Shape} (c : Cursor) → ((e : Cursor) → g (head c) e ≡ fail (refusal (head c)) e) → Full G → Told starts a G (λ d. g (head d) (step d)) c (fail (refusal (head c)) (step c))
   told_refused c h full = told_fail (record {
-      count = 1;
-      ready = omega arith;
-      left = refl;
-      early = λ u. record { before = 0; last = refl; refused = refl; rest = full.0; shape = full.1 };
-      again = λ d l n. subst (λ i. g i (step d) ≡ fail (refusal (head c)) (step d)) l.0 (h (step d));
-    })
+    count = 1;
+    ready = omega arith;
+    left = refl;
+    early = λ u. record { before = 0; last = refl; refused = refl; rest = full.0; shape = full.1 };
+    again = λ d l n. subst (λ i. g i (step d) ≡ fail (refusal (head c)) (step d)) l.0 (h (step d));
+  })
 
 pub tell_refused : {Z X : Type 0} {a : Ahead} {G : Shape} → Full G → Tells {Z = Z} {X = X} starts a G refused
 tell_refused full = record { of = λ c. told_refused (λ i e. fail (refusal i) e) c (λ e. refl) full }
@@ -293,8 +293,10 @@ tell_take {Z} {Y} {k} {a} {H} m full g h = record { of = λ c. go c (is_mark m (
   where
     by : Item → Bool → Cursor → Outcome Z Y
     by i b c = check (cond b (Ok (place_of i)) (Err (refusal i))) c (λ p. g p c)
+
     reads : Item → Cursor → Outcome Z Y
     reads i c = by i (is_mark m i) c
+
     go : (c : Cursor) (b : Bool) → is_mark m (head c) ≡ b → Told starts a (Then (One (Is m)) H) (λ d. reads (head d) (step d)) c (by (head c) b (step c))
     go c true e = told_next reads c e (told_like (λ u. ap (λ b. by (head c) b u) e) ((h (place_of (head c))).of (step c)))
     go c false e = told_refused reads c (λ u. ap (λ b. by (head c) b u) e) (full_then (full_mark m) full)
@@ -354,15 +356,19 @@ tell_either {Z} {X} {G} s r q same h i = record { of = λ c. go c (s (head c)) r
     onward_at : (n : ℕ) (c d : Cursor) → Alike n c d → Onward (after n c) (after n d) → s (head c) ≡ s (head d)
     onward_at zero c d l m = same c d m
     onward_at (suc n) c d l m = ap s l.0
+
     soon : (n : ℕ) (f : Fault) (c d : Cursor) → ((1 ≤ n) ⊎ (may_be_put_off f ≡ true)) → Alike n c d → Ends f (after n c) (after n d) → s (head c) ≡ s (head d)
     soon zero f c d g l m = ⊎_elim (λ z. absurd (omega (arith, z))) (λ e. same c d (m e)) g
     soon (suc n) f c d g l m = ap s l.0
+
     first : (c : Cursor) → s (head c) ≡ true → (o : Outcome Z X) → Told starts onward G r c o → Told soft onward G (λ c. cond (s (head c)) (r c) (q c)) c o
     first c e o (told_ok t) = told_ok (record { count = t.count; begins = tt; left = t.left; shape = t.shape; again = λ d l n. ap (λ b. cond b (r d) (q d)) (sym (ap s (heads t.count c d t.begins l)) ∙ e) ∙ t.again d l n })
     first c e o (told_fail t) = told_fail (record { count = t.count; ready = inl t.ready; left = t.left; early = t.early; again = λ d l n. ap (λ b. cond b (r d) (q d)) (sym (ap s (heads t.count c d t.ready l)) ∙ e) ∙ t.again d l n })
+
     second : (c : Cursor) → s (head c) ≡ false → (o : Outcome Z X) → Told soft onward G q c o → Told soft onward G (λ c. cond (s (head c)) (r c) (q c)) c o
     second c e o (told_ok t) = told_ok (record { count = t.count; begins = tt; left = t.left; shape = t.shape; again = λ d l n. ap (λ b. cond b (r d) (q d)) (sym (onward_at t.count c d l (subst (λ u. Onward u (after t.count d)) t.left n)) ∙ e) ∙ t.again d l n })
     second c e o (told_fail {f} t) = told_fail (record { count = t.count; ready = t.ready; left = t.left; early = t.early; again = λ d l n. ap (λ b. cond b (r d) (q d)) (sym (soon t.count f c d t.ready l (subst (λ u. Ends f u (after t.count d)) t.left n)) ∙ e) ∙ t.again d l n })
+
     go : (c : Cursor) (b : Bool) → s (head c) ≡ b → Told soft onward G (λ c. cond (s (head c)) (r c) (q c)) c (cond b (r c) (q c))
     go c true e = first c e (r c) (h c e)
     go c false e = second c e (q c) (i.of c)
@@ -442,22 +448,22 @@ ready_plus free l j m n s h g = tt
 module _ {Z Y X W : Type 0} {k l : Kind} {a b : Ahead} {G H : Shape} {r : Cursor → Outcome Z X} (g : X → Z → Cursor → Outcome Y W) (follows : Follows k l) (joins : Joins a l b) where
   after_ok : (c : Cursor) {x : X} {e : Cursor} {z : Z} → Took k a G r c x e z → {o : Outcome Y W} → Told l b H (g x z) e o → Told k b (Then G H) (λ d. then (r d) (λ x u z. g x z u)) c o
   after_ok c {x} {e} {z} t (told_ok {x = y} {e = u} {z = w} h) = told_ok (record {
-      count = t.count + h.count;
-      begins = begins_plus k t.count h.count t.begins;
-      left = h.left ∙ ap (after h.count) t.left ∙ sym (after_plus t.count h.count c);
-      shape = record { left = taken t.count c; right = taken h.count e; is = taken_plus t.count h.count c ∙ ap (λ q. taken t.count c ++ taken h.count q) (sym t.left); one = t.shape; two = h.shape };
-      again = λ d n m.
+    count = t.count + h.count;
+    begins = begins_plus k t.count h.count t.begins;
+    left = h.left ∙ ap (after h.count) t.left ∙ sym (after_plus t.count h.count c);
+    shape = record { left = taken t.count c; right = taken h.count e; is = taken_plus t.count h.count c ∙ ap (λ q. taken t.count c ++ taken h.count q) (sym t.left); one = t.shape; two = h.shape };
+    again = λ d n m.
         let v = after t.count d in
         let n₁ : Alike h.count e v = subst (λ q. Alike h.count q v) (sym t.left) (alike_back t.count h.count c d n) in
         let m₁ : Next b u (after h.count v) = subst (λ q. Next b u q) (after_plus t.count h.count d) m in
         let m₂ : Next b (after h.count e) (after h.count v) = subst (λ q. Next b q (after h.count v)) h.left m₁ in
         ap (λ o. then o (λ x u z. g x z u)) (t.again d (alike_front t.count h.count c d n) (seen_ok a l b joins h.count e v h.begins n₁ m₂)) ∙ h.again v n₁ m₁ ∙ ap (λ q. ok y q w) (sym (after_plus t.count h.count d));
-    })
+  })
   after_ok c {x} {e} {z} t (told_fail {f = f} {e = u} h) = told_fail (record {
-      count = t.count + h.count;
-      ready = ready_plus k l follows t.count h.count (may_be_put_off f) t.begins h.ready;
-      left = h.left ∙ ap (after h.count) t.left ∙ sym (after_plus t.count h.count c);
-      early = λ y.
+    count = t.count + h.count;
+    ready = ready_plus k l follows t.count h.count (may_be_put_off f) t.begins h.ready;
+    left = h.left ∙ ap (after h.count) t.left ∙ sym (after_plus t.count h.count c);
+    early = λ y.
         let w = h.early y in
         record {
           before = t.count + w.before;
@@ -466,23 +472,23 @@ module _ {Z Y X W : Type 0} {k l : Kind} {a b : Ahead} {G H : Shape} {r : Cursor
           rest = w.rest;
           shape = record { left = taken t.count c; right = taken w.before e ++ w.rest; is = ap (λ us. us ++ w.rest) (taken_plus t.count w.before c ∙ ap (λ q. taken t.count c ++ taken w.before q) (sym t.left)) ∙ append_assoc (taken t.count c) (taken w.before e) w.rest; one = t.shape; two = w.shape };
         };
-      again = λ d n m.
+    again = λ d n m.
         let v = after t.count d in
         let n₁ : Alike h.count e v = subst (λ q. Alike h.count q v) (sym t.left) (alike_back t.count h.count c d n) in
         let m₁ : Ends f u (after h.count v) = subst (λ q. Ends f u q) (after_plus t.count h.count d) m in
         let m₂ : Ends f (after h.count e) (after h.count v) = subst (λ q. Ends f q (after h.count v)) h.left m₁ in
         ap (λ o. then o (λ x u z. g x z u)) (t.again d (alike_front t.count h.count c d n) (seen_fail a l b joins f h.count e v h.ready n₁ m₂)) ∙ h.again v n₁ m₁ ∙ ap (λ q. fail f q) (sym (after_plus t.count h.count d));
-    })
+  })
 
   pub told_then : (c : Cursor) {o : Outcome Z X} → Told k a G r c o → Full H → ((x : X) (z : Z) → Tells l b H (g x z)) → Told k b (Then G H) (λ d. then (r d) (λ x u z. g x z u)) c (then o (λ x u z. g x z u))
   told_then c (told_ok {x} {e} {z} t) full i = after_ok c t ((i x z).of e)
   told_then c (told_fail {f} {e} t) full i = told_fail (record {
-      count = t.count;
-      ready = t.ready;
-      left = t.left;
-      early = λ y. let w = t.early y in record { before = w.before; last = w.last; refused = w.refused; rest = w.rest ++ full.0; shape = record { left = taken w.before c ++ w.rest; right = full.0; is = sym (append_assoc (taken w.before c) w.rest full.0); one = w.shape; two = full.1 } };
-      again = λ d n m. ap (λ o. then o (λ x u z. g x z u)) (t.again d n m);
-    })
+    count = t.count;
+    ready = t.ready;
+    left = t.left;
+    early = λ y. let w = t.early y in record { before = w.before; last = w.last; refused = w.refused; rest = w.rest ++ full.0; shape = record { left = taken w.before c ++ w.rest; right = full.0; is = sym (append_assoc (taken w.before c) w.rest full.0); one = w.shape; two = full.1 } };
+    again = λ d n m. ap (λ o. then o (λ x u z. g x z u)) (t.again d n m);
+  })
 
   pub tell_then : Tells k a G r → Full H → ((x : X) (z : Z) → Tells l b H (g x z)) → Tells k b (Then G H) (λ c. then (r c) (λ x u z. g x z u))
   tell_then h full i = record { of = λ c. told_then c (h.of c) full i }
