@@ -33,7 +33,7 @@ full_number = full_one (at (number []) 0) (_, refl)
 
 -- names of atoms
 
-late_named : (o : Option ℕ) (p : ℕ) → Late (found_at o p)
+pub late_named : (o : Option ℕ) (p : ℕ) → Late (found_at o p)
 late_named None p = refuses refl
 late_named (Some i) p = passes
 
@@ -50,7 +50,7 @@ tell_second_number ns =
 
 -- sets of tuples
 
-late_tuple : (o : Option ℕ) (p : ℕ) → Late (ok_or o (ArityMismatch p))
+pub late_tuple : (o : Option ℕ) (p : ℕ) → Late (ok_or o (ArityMismatch p))
 late_tuple None p = refuses refl
 late_tuple (Some t) p = passes
 
@@ -104,7 +104,7 @@ tell_set ns a =
 
 -- atoms
 
-late_atomed : (x : List ℕ) (p : ℕ) (k : Known) → LateChange (atomed x p k)
+pub late_atomed : (x : List ℕ) (p : ℕ) (k : Known) → LateChange (atomed x p k)
 unfolding atomed
 late_atomed x p k = go (taken x k) (nat_lt (length k.atoms) 8)
   where
@@ -140,7 +140,7 @@ tell_atoms k =
 
 -- relations
 
-late_arity : (o : Option Arity) (p : ℕ) → Late (arity_from o p)
+pub late_arity : (o : Option Arity) (p : ℕ) → Late (arity_from o p)
 late_arity None p = refuses refl
 late_arity (Some a) p = passes
 
@@ -150,11 +150,11 @@ tell_arity =
     tell_map ends (tell_taking number_of full_number ([], refl) (λ n i c₁. check (arity_given n (place_of i)) c₁ (λ a. ok a c₁ tt)) (λ n i.
     tell_check (arity_given n (place_of i)) (late_arity (arity_of n) (place_of i)) (λ a c₁. ok a c₁ tt) (λ a. tell_ok {k = soft} a tt tt refl)))
 
-late_within : (o : Option ℕ) → Late (within o)
+pub late_within : (o : Option ℕ) → Late (within o)
 late_within None = passes
 late_within (Some p) = refuses refl
 
-abbrev Bounds : Shape
+abbrev pub Bounds : Shape
 Bounds = Then Set (Then Set (One (Is mark.Semicolon)))
 
 full_bounds : Full Bounds
@@ -167,7 +167,7 @@ tell_bounds m x a k =
     tell_check (within (outside l u.held)) (late_within (outside l u.held)) (λ _ c₂. take mark.Semicolon c₂ (λ _ c₃. ok tt c₃ (related (declared x m a l.held u.held) k))) (λ _.
     tell_map ends (tell_take mark.Semicolon ([], refl) (λ _ c₃. ok tt c₃ (related (declared x m a l.held u.held) k)) (λ _. tell_ok {k = soft} tt (related (declared x m a l.held u.held) k) tt refl)))))
 
-late_nameable : (x : List ℕ) (p : ℕ) (k : Known) → Late (nameable x p k)
+pub late_nameable : (x : List ℕ) (p : ℕ) (k : Known) → Late (nameable x p k)
 unfolding nameable
 late_nameable x p k = go (taken x k) (nat_lt (length k.relations) 12)
   where
@@ -176,7 +176,7 @@ late_nameable x p k = go (taken x k) (nat_lt (length k.relations) 12)
     go false true = passes
     go false false = refuses refl
 
-abbrev Named : Shape
+abbrev pub Named : Shape
 Named = Then (One IsName) (Then (One (Is mark.Colon)) (Then (One IsNumber) Bounds))
 
 full_named : Full Named
@@ -202,7 +202,7 @@ tell_relations (suc n) k =
 pub tell_declarations : (k : Known) → Tells starts looks_at_first (Then Atoms (Many Relation)) (λ c. declarations c k)
 tell_declarations k = tell_then (λ _ k₁ c₁. relations most_text c₁ k₁) tt tt (tell_atoms k) full_many (λ _ k₁. tell_relations most_text k₁)
 
-late_horizon : (u : Option Unfit) (k : Known) (n p : ℕ) → Late (fitting u k n p)
+pub late_horizon : (u : Option Unfit) (k : Known) (n p : ℕ) → Late (fitting u k n p)
 late_horizon None k n p = passes
 late_horizon (Some unfitness.Limit) k n p = refuses refl
 late_horizon (Some unfitness.FreePlaces) k n p = refuses refl

@@ -88,7 +88,7 @@ mild_variable : (v : Option ℕ) (x : List ℕ) (p : ℕ) (b : Body) → Mild (a
 mild_variable None x p b = mild_relation (index_of x (names_of b)) p b
 mild_variable (Some v) x p b = passed
 
-mild_resolved : (x : List ℕ) (p : ℕ) (b : Body) → Mild (resolved x p b)
+pub mild_resolved : (x : List ℕ) (p : ℕ) (b : Body) → Mild (resolved x p b)
 unfolding resolved
 mild_resolved x p b = mild_variable (index_of x b.scope) x p b
 
@@ -181,7 +181,7 @@ tell_combined n u w b o =
     tell_at_end w (λ v c₁. check (asked v (arity_in i b₁)) c₁ (λ _. ok i c₁ b₁ o₁)) (λ v.
     tell_mild (asked v (arity_in i b₁)) (mild_asked v (arity_in i b₁)) (λ _ c₁. ok i c₁ b₁ o₁) (λ _. done i b₁ o₁))))))
 
-abbrev Bracketed : Shape
+abbrev pub Bracketed : Shape
 Bracketed = Then Exp (Then (One IsOperator) (Then Exp (One (Is mark.CloseBracket))))
 
 full_operator : Full (One IsOperator)

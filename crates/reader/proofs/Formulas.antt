@@ -33,7 +33,7 @@ use Rattle.reader.proofs.Expressions.{Nothing, Wholes, full_exp, gentle_counted,
 
 -- refusals that are no tokens'
 
-late_bindable : (x : List ℕ) (p : ℕ) (b : Body) → Late (bindable x p b)
+pub late_bindable : (x : List ℕ) (p : ℕ) (b : Body) → Late (bindable x p b)
 unfolding bindable
 late_bindable x p b = go (known x b) (nat_lt (length b.scope) most_variables)
   where
@@ -69,23 +69,23 @@ tell_settle n p b o = tell_gentle (putting kind.Formula n p b) (gentle_putting k
 
 -- rows of tokens
 
-abbrev Joined : Shape
+abbrev pub Joined : Shape
 Joined = Then Form (Then (One IsInfix) (Then Form (One (Is mark.CloseParen))))
 
-abbrev Ranged : Shape
+abbrev pub Ranged : Shape
 Ranged = Then Exp (Then (One (Is mark.Bar)) Form)
 
-abbrev Domain : Shape
+abbrev pub Domain : Shape
 Domain = Then (One (Is mark.Colon)) Ranged
 
-abbrev Compared : Shape
+abbrev pub Compared : Shape
 Compared = Then Exp (Then (One IsComparison) Exp)
 
 -- after "some" NAME, and after "some"
-abbrev Named : Shape
+abbrev pub Named : Shape
 Named us = Domain us ⊎ Many (One (Is mark.Prime)) us
 
-abbrev Somehow : Shape
+abbrev pub Somehow : Shape
 Somehow us = Exp us ⊎ Then (One IsName) Domain us
 
 full_right : Full (Then Form (One (Is mark.CloseParen)))

@@ -1,6 +1,11 @@
 pub mod Starting
 pub mod Telling
+pub mod Items
+pub mod Passing
 pub mod Declaring
+pub mod PassDeclarations
 pub mod Expressions
+pub mod PassExpressions
 pub mod Formulas
+pub mod PassFormulas
 pub mod Settling

@@ -150,7 +150,7 @@ pub full_many : {G : Shape} → Full (Many G)
 full_many = ([], no_more)
 
 -- a refusal that may be put off is of no token
-put_off_late : (f : Fault) → may_be_put_off f ≡ true → is_early f ≡ false
+pub put_off_late : (f : Fault) → may_be_put_off f ≡ true → is_early f ≡ false
 put_off_late fault.TextTooLong e = absurd cc
 put_off_late (fault.NoToken p) e = absurd cc
 put_off_late (fault.TokenTooLong p) e = absurd cc
@@ -272,6 +272,10 @@ pub data Mild {X : Type 0} : Result X Fault → Type 0 where
 pub data Gentle {Z X : Type 0} : Change Z X → Type 0 where
   altered : {x : X} {z : Z} → Gentle (changed x z)
   kept : {f : Fault} → may_be_put_off f ≡ true → Gentle (unfit f)
+
+pub mild_late : {X : Type 0} {r : Result X Fault} → Mild r → Late r
+mild_late passed = passes
+mild_late (put_off {f} e) = refuses (put_off_late f e)
 
 pub gentle_late : {Z X : Type 0} {c : Change Z X} → Gentle c → LateChange c
 gentle_late altered = alters

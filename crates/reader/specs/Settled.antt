@@ -53,12 +53,13 @@ pub record Refuses (G : List Item → Type 0) (c : Cursor) (f : Fault) (tokens :
 
 -- a refusal is settled by one of a text's tokens: every text that is not too long and has the same tokens up to that one is refused with the
 -- same fault at the same place, for some faults if it goes on alike as far as a ' sign or a ":" is concerned. A refusal of a token is settled
--- by that token, and those before it are the beginning of some text of the grammar
+-- by that token: those before it are the beginning of some text of the grammar, and with it they are the beginning of none that is not too long
 pub record SettledByToken (text : List ℕ) (f : Fault) : Type 0 where
   pub tokens : ℕ
   pub settles : problem_text (cursor_of text) nothing_known ≡ fail f (after tokens (cursor_of text))
   pub whatever_follows : (other : List ℕ) → length other ≤ most_text → Alike tokens (cursor_of text) (cursor_of other) → Ends f (after tokens (cursor_of text)) (after tokens (cursor_of other)) → reading other ≡ Err f
   pub right_so_far : is_early f ≡ true → Refuses Text (cursor_of text) f tokens
+  pub and_no_further : is_early f ≡ true → (more : List Item) → length (taken tokens (cursor_of text) ++ more) ≤ most_text → Text (taken tokens (cursor_of text) ++ more) → ⊥
 
 -- what is known of an answer to a text that is not too long: a refusal is settled by one of its tokens
 abbrev pub Settled : {X : Type 0} → List ℕ → Result X Fault → Type 0
