@@ -36,6 +36,7 @@ Onward c d = (is_mark mark.Prime (head c) ≡ is_mark mark.Prime (head d)) × (i
 abbrev pub may_be_put_off : Fault → Bool
 may_be_put_off f = (entry f).number == 6 || ((entry f).number == 7 || (entry f).number == 8)
 
+-- where the next token may put the refusal off, both texts go on alike in that
 abbrev pub Ends : Fault → Cursor → Cursor → Type 0
 Ends f c d = may_be_put_off f ≡ true → Onward c d
 
