@@ -1,6 +1,6 @@
 -- A refusal of a text is settled by one of its tokens.
 use Rattle.std.specs.Prelude.{nat_lt}
-use Rattle.std.proofs.Common.{◌≡◌, ℕ, ◌≤◌, Bool, true, false, List, length, Ok, Err, Result, refl, sym, ap, ◌∙◌, subst, arith, ltb-true, [], ◌++◌, append_assoc, zero, suc, ◌+◌, ◌∷◌, None}
+use Rattle.std.proofs.Common.{◌≡◌, ℕ, ◌≤◌, Bool, true, false, List, length, Ok, Err, Result, refl, sym, ap, ◌∙◌, subst, arith, ltb-true, [], ◌++◌, append_assoc, zero, suc, ◌+◌, ◌∷◌, None, cond}
 use Rattle.std.proofs.lemmas.Bool.{cond-false}
 use Rattle.faults.specs.declared.Fault.{Fault}
 use Rattle.faults.specs.declared.Fault.TheVariants.{TextTooLong}
@@ -14,8 +14,8 @@ use Rattle.formulas.specs.Formulas.{formula, levels}
 use Rattle.declaring.specs.Sets.{most_text}
 use Rattle.declaring.specs.Known.{Known, Framed}
 use Rattle.declaring.specs.Declaring.{mutability_of, horizon}
-use Rattle.reader.specs.Reading.{Contents, contents_of, contents_told, nothing_known, unread, no_bracket, formula_only, formula_text, problem_text, value_of, reading}
-use Rattle.reader.specs.Settled.{after, taken, Alike, Ends, is_early, Refuses, SettledByToken, Settled}
+use Rattle.reader.specs.Reading.{Contents, contents, contents_of, contents_told, nothing_known, unread, no_bracket, formula_only, formula_text, problem_text, value_of, reading}
+use Rattle.reader.specs.Settled.{after, taken, Alike, Ends, is_early, Refuses, SettledByToken, FollowsGrammar, Settled}
 use Rattle.reader.proofs.Telling.{Shape, Full, Ahead, nothing as looks_at_nothing, Kind, starts, soft, Told, told_ok, told_fail, Tells, full_mark, full_then, tell_ok, tell_take, tell_map, tell_then, put_off_late}
 use Rattle.reader.proofs.Declaring.{ends, full_horizon, tell_declarations, tell_horizon}
 use Rattle.reader.proofs.Formulas.{full_formula, tell_formula}
@@ -121,8 +121,21 @@ short text h = cond-false (nat_lt most_text (length text)) (Err TextTooLong) (va
     go true e = absurd (omega (arith, h, ltb-true _ _ e))
     go false e = refl
 
+-- an accepted text follows the grammar
+follows : (text : List ℕ) (x : Contents) → Ok x ≡ reading text → FollowsGrammar text
+unfolding reading
+follows text x h = go (nat_lt most_text (length text)) h
+  where
+    seen : (o : Outcome Contents (Unit {0})) → Told starts looks_at_nothing Text (λ c. problem_text c nothing_known) (cursor_of text) o → Ok x ≡ value_of o → FollowsGrammar text
+    seen o (told_ok t) e = record { tokens = t.count; shape = t.shape }
+    seen o (told_fail t) e = absurd cc
+
+    go : (b : Bool) → Ok x ≡ cond b (Err TextTooLong) (value_of (problem_text (cursor_of text) nothing_known)) → FollowsGrammar text
+    go true e = absurd cc
+    go false e = seen (problem_text (cursor_of text) nothing_known) ((tell_problem nothing_known).of (cursor_of text)) e
+
 pub settled : (text : List ℕ) (r : Result Problem Fault) → contents_told r ≡ reading text → Settled text r
-settled text (Ok p) h = tt
+settled text (Ok p) h = follows text (contents p) h
 settled text (Err f) h = λ l. go (problem_text (cursor_of text) nothing_known) refl ((tell_problem nothing_known).of (cursor_of text)) (sym (h ∙ short text l))
   where
     go : (o : Outcome Contents (Unit {0})) → problem_text (cursor_of text) nothing_known ≡ o → Told starts looks_at_nothing Text (λ c. problem_text c nothing_known) (cursor_of text) o → value_of o ≡ Err f → SettledByToken text f

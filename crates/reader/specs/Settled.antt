@@ -62,13 +62,18 @@ pub record SettledByToken (text : List ℕ) (f : Fault) : Type 0 where
   pub right_so_far : is_early f ≡ true → Refuses Text (cursor_of text) f tokens
   pub and_no_further : is_early f ≡ true → (more : List Item) → length (taken tokens (cursor_of text) ++ more) ≤ most_text → Text (taken tokens (cursor_of text) ++ more) → ⊥
 
--- what is known of an answer to a text that is not too long: a refusal is settled by one of its tokens
+-- a text follows the grammar: its tokens, with its end for the last, are a text of the grammar
+pub record FollowsGrammar (text : List ℕ) : Type 0 where
+  pub tokens : ℕ
+  pub shape : Text (taken tokens (cursor_of text))
+
+-- what is known of an answer: an accepted text follows the grammar, and the refusal of one that is not too long is settled by one of its tokens
 abbrev pub Settled : {X : Type 0} → List ℕ → Result X Fault → Type 0
-Settled text (Ok x) = Unit {0}
+Settled text (Ok x) = FollowsGrammar text
 Settled text (Err f) = length text ≤ most_text → SettledByToken text f
 
 -- the same where memory may be wanting
 abbrev pub SettledUnlessMemory : List ℕ → Result (Unit {0}) Refusal → Type 0
-SettledUnlessMemory text (Ok u) = Unit {0}
+SettledUnlessMemory text (Ok u) = FollowsGrammar text
 SettledUnlessMemory text (Err (refusal.Fault f)) = length text ≤ most_text → SettledByToken text f
 SettledUnlessMemory text (Err (refusal.Memory w)) = Unit {0}
