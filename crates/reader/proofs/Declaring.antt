@@ -25,9 +25,6 @@ use Rattle.reader.proofs.Telling.{Shape, Full, nothing as looks_at_nothing, firs
 pub ends : {G : Shape} (us : List Item) → Then G (λ vs. vs ≡ []) us → G us
 ends {G} us h = rw (h.is, h.two, append-nil) h.one
 
-one_name : (us : List Item) → One (λ i. (x : List ℕ) × (name_of i ≡ Some x)) us → One IsName us
-one_name us h = h
-
 full_number : Full (One IsNumber)
 full_number = full_one (at (number []) 0) (_, refl)
 
@@ -59,9 +56,6 @@ full_end = full_mark mark.CloseParen
 
 full_second : Full (Then (Perhaps (One IsName)) (One (Is mark.CloseParen)))
 full_second = full_then ([], not_there) full_end
-
-full_tuple : Full Tuple
-full_tuple = full_then (full_mark mark.OpenParen) (full_then full_name full_second)
 
 tell_tuple : (ns : List (List ℕ)) (a : Arity) (s : Listed) → Tells starts looks_at_nothing Tuple (λ c. tuple ns a c s)
 tell_tuple ns a s =
@@ -128,9 +122,6 @@ tell_further (suc n) k =
 full_semicolon : Full (One (Is mark.Semicolon))
 full_semicolon = full_mark mark.Semicolon
 
-pub full_atoms : Full Atoms
-full_atoms = full_then (full_mark mark.Atoms) (full_then full_name (full_then full_many full_semicolon))
-
 tell_atoms : (k : Known) → Tells starts looks_at_nothing Atoms (λ c. atoms c k)
 tell_atoms k =
     tell_take mark.Atoms (full_then full_name (full_then full_many full_semicolon)) (λ _ c₁. then (atom c₁ k) (λ _ c₂ k₂. then (further_atoms most_text c₂ k₂) (λ _ c₃ k₃. take mark.Semicolon c₃ (λ _ c₄. ok tt c₄ k₃)))) (λ _.
@@ -178,9 +169,6 @@ late_nameable x p k = go (taken x k) (nat_lt (length k.relations) 12)
 
 abbrev pub Named : Shape
 Named = Then (One IsName) (Then (One (Is mark.Colon)) (Then (One IsNumber) Bounds))
-
-full_named : Full Named
-full_named = full_then full_name (full_then (full_mark mark.Colon) (full_then full_number full_bounds))
 
 tell_relation : (m : Mutability) (k : Known) → Tells starts looks_at_nothing Named (λ c. relation m c k)
 tell_relation m k =

@@ -52,7 +52,7 @@ late_bound x p b = go (nat_lt (length b.scope) most_variables)
 
 -- examples
 
-full_form : Full Form
+pub full_form : Full Form
 unfolding start_of
 full_form = (at (word words.No) 0 ∷ full_exp.0, f_is_no (at (word words.No) 0) refl full_exp.1)
 
@@ -243,9 +243,6 @@ module _ (e : Expressions) (E : Wholes e) (f : Formulas) (F : Reads f) where
 
   tell_begun : Reads (begun e after_name f)
   tell_begun b o = record { of = λ c. told_by start_of (λ s d. beginning e after_name f s d b o) c (told_beginning b o c (start_of (head c)) refl) }
-
-pub full_formula : Full Form
-full_formula = full_form
 
 pub tell_formula : (n : ℕ) → Reads (formula n)
 unfolding formula

@@ -215,9 +215,6 @@ pass_primed n f F w b o h l =
 
 -- P, by what it begins with
 
-abbrev Readers : Type 0
-Readers = Cursor → Outcome ℕ
-
 module _ (n : ℕ) (f : Primaries) (F : PassParts n f) (u w : Option Wish) (b : Body) (o : Open) (h : Held b o) (l : 289 ≤ suc n + b.parts + length o.places) where
   by_head : (us : List Item) (c : Cursor) (y : Head) → head_of (head c) ≡ Some y → Passed (λ (i : ℕ) z. Grown b o z) (past us c) (beginning f (Some y) u w c b o) → Passed (λ (i : ℕ) z. Grown b o z) (past us c) (begun f u w c b o)
   by_head us c y e p = subst (λ y. Passed (λ (i : ℕ) z. Grown b o z) (past us c) (beginning f y u w c b o)) (sym e) p

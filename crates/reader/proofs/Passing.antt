@@ -8,7 +8,7 @@ use Rattle.tokens.specs.Outcomes.{Outcome, ok, fail, then, check, take, taking, 
 use Rattle.declaring.specs.Sets.{most_text}
 use Rattle.reader.specs.Settled.{is_early}
 use Rattle.reader.specs.Grammar.{Is, One, Then}
-use Rattle.reader.proofs.Telling.{Late, passes, refuses}
+use Rattle.reader.proofs.Telling.{Late, refuses}
 
 -- the next tokens are those, and what stands after them
 abbrev pub Stands : List Item → Cursor → Type 0
@@ -57,14 +57,6 @@ pub data Sized {Z X : Type 0} (P : X → Z → Type 0) : Change Z X → Type 0 w
   sized_ok : {x : X} {z : Z} → P x z → Sized P (changed x z)
   sized_late : {f : Fault} → is_early f ≡ false → Sized P (unfit f)
 
-pub pass_alter : {Z W X Y : Type 0} {P : X → Z → Type 0} {Q : Y → W → Type 0} {e : Cursor} {r : Change Z X} (g : X → Z → Cursor → Outcome W Y) (c : Cursor) → Sized P r → ((x : X) (z : Z) → P x z → Passed Q e (g x z c)) → Passed Q e (alter r c (λ x z. g x z c))
-pass_alter g c (sized_ok {x} {z} p) h = h x z p
-pass_alter g c (sized_late l) h = passed_late l
-
-pub pass_check : {Z X Y : Type 0} {Q : Y → Z → Type 0} {e : Cursor} {r : Result X Fault} (g : X → Cursor → Outcome Z Y) (c : Cursor) → Late r → ((x : X) → Passed Q e (g x c)) → Passed Q e (check r c (λ x. g x c))
-pass_check g c (passes {x}) h = h x
-pass_check g c (refuses l) h = passed_late l
-
 pub pass_take : {Z Y : Type 0} {Q : Y → Z → Type 0} {e : Cursor} (m : Mark) (c : Cursor) (g : ℕ → Cursor → Outcome Z Y) → Is m (head c) → Passed Q e (g (place_of (head c)) (step c)) → Passed Q e (take m c g)
 unfolding expected
 pass_take {Q = Q} {e} m c g i h = subst (λ b. Passed Q e (check (cond b (Ok (place_of (head c))) (Err (refusal (head c)))) (step c) (λ p. g p (step c)))) (sym i) h
@@ -108,9 +100,6 @@ Always c = Unit {0}
 module _ {Z X : Type 0} {R : Cursor → Type 0} {Q : X → Z → Type 0} where
   pub pass_map : {G H : List Item → Type 0} {r : Cursor → Outcome Z X} → ((us : List Item) → H us → G us) → Passes G R Q r → Passes H R Q r
   pass_map m h = record { of = λ us c g l s n. h.of us c (m us g) l s n }
-
-  pub pass_like : {G : List Item → Type 0} {r q : Cursor → Outcome Z X} → ((c : Cursor) → r c ≡ q c) → Passes G R Q q → Passes G R Q r
-  pass_like e h = record { of = λ us c g l s n. subst (Passed Q (past us c)) (sym (e c)) (h.of us c g l s n) }
 
   pub pass_ok : (x : X) (z : Z) → Q x z → Passes (λ us. us ≡ []) R Q (λ c. ok x c z)
   pass_ok x z q = record { of = λ us c g l s n. passed_at (ap (λ us. past us c) (sym g)) (passed_ok q) }

@@ -18,7 +18,7 @@ use Rattle.reader.specs.Reading.{Contents, contents, contents_of, contents_told,
 use Rattle.reader.specs.Settled.{after, taken, Alike, Ends, is_early, Refuses, SettledByToken, FollowsGrammar, Settled}
 use Rattle.reader.proofs.Telling.{Shape, Full, Ahead, nothing as looks_at_nothing, Kind, starts, soft, Told, told_ok, told_fail, Tells, full_mark, full_then, tell_ok, tell_take, tell_map, tell_then, put_off_late}
 use Rattle.reader.proofs.Declaring.{ends, full_horizon, tell_declarations, tell_horizon}
-use Rattle.reader.proofs.Formulas.{full_formula, tell_formula}
+use Rattle.reader.proofs.Formulas.{full_form, tell_formula}
 use Rattle.reader.specs.Grammar.{Is, One, Then, Many, Form, Atoms, Relation, Horizon, Text}
 use Rattle.tokens.specs.Items.{Item}
 use Rattle.reader.proofs.Items.{other_mark, horizon_no_mutability}
@@ -38,7 +38,7 @@ abbrev Rest : Shape
 Rest = Then (One (Is mark.Formula)) (Then Form (One (Is mark.End)))
 
 full_whole : Full (Then Form (One (Is mark.End)))
-full_whole = full_then full_formula (full_mark mark.End)
+full_whole = full_then full_form (full_mark mark.End)
 
 full_rest : Full Rest
 full_rest = full_then (full_mark mark.Formula) full_whole
