@@ -3,6 +3,7 @@
 #![tactic(auto)]
 
 mod by_source;
+mod counts;
 mod misfit_in_words;
 mod place_in_text;
 mod report;
