@@ -6,11 +6,11 @@ mod counts;
 mod marks;
 mod problems;
 
-use anyhow::{Context, Result, anyhow};
+use anyhow::{Context, Result, anyhow, bail};
 use counts::Counts;
 use logs::Log;
 use problem::Problem;
-use reader::{Refusal, read};
+use reader::read;
 use std::env;
 use std::time::Instant;
 use verdict::verdict;
@@ -49,8 +49,7 @@ fn problem_of(rt: &HostRuntime, text: &[u8]) -> Result<Problem> {
     let mut problem = Problem::fresh(rt.alloc())?;
     match read(text, &mut problem, rt.alloc()) {
         Ok(()) => Ok(problem),
-        Err(Refusal::Fault(fault)) => Err(anyhow!("the problem is refused: {fault}")),
-        Err(Refusal::Memory(wanting)) => Err(wanting.into()),
+        Err(_) => bail!("the problem is not read"),
     }
 }
 

@@ -6,10 +6,10 @@ ghost use Rattle.tokens.specs.Outcomes.{told};
 ghost use Rattle.declaring.specs.Sets.{most_text};
 ghost use Rattle.declaring.specs.Known.{known, framed_told};
 ghost use Rattle.declaring.specs.Declaring.{atom, further_atoms, atoms, mutability_of, arity as arity_of, bounds, relation as relation_of, relations as relations_of, declarations, horizon};
-ghost use Rattle.declaring.specs.Readers.{answer, from};
+ghost use Rattle.declaring.specs.Readers.{answer, from, lent_answer, lent_from, SameLoans};
 
 use super::known::{arity_given, declare_atom, declare_relation, nameable, with_horizon};
-use super::reader::Reader;
+use super::reader::{Lent, Reader};
 use super::sets::MOST_TEXT;
 use faults::Fault;
 use names::Name;
@@ -27,18 +27,29 @@ pub fn read_horizon(tokens: &mut Tokens<'_>, declared: Declarations) -> Result<S
     Ok(signature)
 }
 
-impl<'a> Reader<'a> {
+// Reads the atoms and the relations.
+pub fn read_declarations(tokens: &mut Tokens<'_>, declared: &mut Declarations) -> Result<(), Fault>
+    ensures { told result (cursor tokens.new) (known declared.new) ≡ declarations (cursor tokens.old) (known declared.old) }
+{
+    let mut lent = Lent { tokens, declared };
+    lent.atoms()?;
+    lent.relations()
+}
+
+impl Reader<'_> {
     // Reads the atoms and the relations.
     pub fn declarations(&mut self) -> Result<(), Fault>
         ensures { answer result self.new ≡ from self.old declarations }
     {
-        self.atoms()?;
-        self.relations()
+        read_declarations(&mut self.tokens, &mut self.declared)
     }
+}
 
+impl Lent<'_, '_> {
     // Reads the atoms.
     fn atoms(&mut self) -> Result<(), Fault>
-        ensures { answer result self.new ≡ from self.old atoms }
+        ensures value { lent_answer result self.new ≡ lent_from self.old atoms }
+        ensures same { SameLoans self.old self.new }
     {
         self.tokens.expect(Mark::Atoms)?;
         self.atom()?;
@@ -51,7 +62,8 @@ impl<'a> Reader<'a> {
     // No plainer as one loop with the tuples of a set: it would take the test of the end and the reader as closures that are handed `self`.
     #[tactic(auto, using(crate::proofs::Turns::atoms_none, crate::proofs::Turns::atoms_end, crate::proofs::Turns::atoms_more, crate::proofs::Turns::atoms_fail))]
     fn more_atoms(&mut self) -> Result<(), Fault>
-        ensures { answer result self.new ≡ from self.old (further_atoms most_text) }
+        ensures value { lent_answer result self.new ≡ lent_from self.old (further_atoms most_text) }
+        ensures same { SameLoans self.old self.new }
     {
         'atoms: for _turn in 0..MOST_TEXT {
             if self.tokens.is(Mark::Semicolon) {
@@ -64,19 +76,21 @@ impl<'a> Reader<'a> {
 
     // Reads an atom, and declares it.
     fn atom(&mut self) -> Result<(), Fault>
-        ensures { answer result self.new ≡ from self.old atom }
+        ensures value { lent_answer result self.new ≡ lent_from self.old atom }
+        ensures same { SameLoans self.old self.new }
     {
         let placed = self.tokens.take_name()?;
-        declare_atom(&mut self.declared, placed)
+        declare_atom(self.declared, placed)
     }
 
     // Reads the relations.
     #[tactic(auto, using(crate::proofs::Turns::relations_none, crate::proofs::Turns::relations_end, crate::proofs::Turns::relations_more, crate::proofs::Turns::relations_fail))]
     fn relations(&mut self) -> Result<(), Fault>
-        ensures { answer result self.new ≡ from self.old (relations_of most_text) }
+        ensures value { lent_answer result self.new ≡ lent_from self.old (relations_of most_text) }
+        ensures same { SameLoans self.old self.new }
     {
         'relations: for _turn in 0..MOST_TEXT {
-            let Some(mutability) = mutability_of(&self.tokens) else {
+            let Some(mutability) = mutability_of(self.tokens) else {
                 break;
             };
             self.tokens.advance();
@@ -87,20 +101,22 @@ impl<'a> Reader<'a> {
 
     // Reads a relation after its first word, and declares it.
     fn relation(&mut self, mutability: Mutability) -> Result<(), Fault>
-        ensures { answer result self.new ≡ from self.old (relation_of mutability) }
+        ensures value { lent_answer result self.new ≡ lent_from self.old (relation_of mutability) }
+        ensures same { SameLoans self.old self.new }
     {
         let placed = self.tokens.take_name()?;
-        nameable(&self.declared, placed)?;
+        nameable(self.declared, placed)?;
         self.tokens.expect(Mark::Colon)?;
-        let arity = read_arity(&mut self.tokens)?;
+        let arity = read_arity(self.tokens)?;
         self.bounds(mutability, placed.name, arity)
     }
 
     // Reads the bounds of a relation, and declares it.
     #[tactic(auto, unfolding(crate::specs::Known::known))]
     fn bounds(&mut self, mutability: Mutability, name: Name, arity: Arity) -> Result<(), Fault>
-        requires { length (relations_in self.old.declared) < 12 }
-        ensures { answer result self.new ≡ from self.old (bounds mutability (spelling name) arity) }
+        requires { length (relations_in self.old.declared.now) < 12 }
+        ensures value { lent_answer result self.new ≡ lent_from self.old (bounds mutability (spelling name) arity) }
+        ensures same { SameLoans self.old self.new }
     {
         let lower = self.set(arity)?;
         let upper = self.set(arity)?;
@@ -109,7 +125,7 @@ impl<'a> Reader<'a> {
         }
         self.tokens.expect(Mark::Semicolon)?;
         declare_relation(
-            &mut self.declared,
+            self.declared,
             Relation::new(name, mutability, arity, lower.set(), upper.set()),
         );
         Ok(())

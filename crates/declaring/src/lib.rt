@@ -7,6 +7,6 @@ mod reader;
 mod sets;
 mod tuples;
 
-pub use declare::read_horizon;
+pub use declare::{read_declarations, read_horizon};
 pub use reader::Reader;
 pub use sets::MOST_TEXT;

@@ -7,3 +7,10 @@ pub struct Reader<'a> {
     pub tokens: Tokens<'a>,
     pub declared: Declarations,
 }
+
+// The same, lent by a caller.
+#[derive(Drop)]
+pub(crate) struct Lent<'a, 'b> {
+    pub tokens: &'b mut Tokens<'a>,
+    pub declared: &'b mut Declarations,
+}

@@ -4,8 +4,9 @@ ghost use Rattle.relations.specs.Declarations.{atoms_of};
 ghost use Rattle.tokens.specs.Cursors.{cursor};
 ghost use Rattle.tokens.specs.Outcomes.{told};
 ghost use Rattle.declaring.specs.Sets.{listed, atom_named, atom_number, second_number, numbered, tuple as tuple_of, tuples as tuples_of, tuple_set, set_told, most_text};
+ghost use Rattle.declaring.specs.Readers.{SameLoans};
 
-use super::reader::Reader;
+use super::reader::Lent;
 use super::tuples::Tuples;
 use faults::Fault;
 use names::lookup;
@@ -15,11 +16,12 @@ use tokens::{Mark, PlacedName};
 // The most bytes of a text, so more than it has tuples.
 pub const MOST_TEXT: usize = 8192;
 
-impl<'a> Reader<'a> {
+impl Lent<'_, '_> {
     // Reads a set of tuples.
     pub(super) fn set(&mut self, arity: Arity) -> Result<Tuples, Fault>
-        ensures value { set_told result (cursor self.new.tokens) ≡ tuple_set (atoms_of self.old.declared) arity (cursor self.old.tokens) }
-        ensures kept { self.new.declared ≡ self.old.declared }
+        ensures value { set_told result (cursor self.new.tokens.now) ≡ tuple_set (atoms_of self.old.declared.now) arity (cursor self.old.tokens.now) }
+        ensures kept { self.new.declared.now ≡ self.old.declared.now }
+        ensures same { SameLoans self.old self.new }
     {
         self.tokens.expect(Mark::OpenBrace)?;
         let mut tuples = Tuples::new();
@@ -32,8 +34,9 @@ impl<'a> Reader<'a> {
     // No plainer as one loop with the atoms, for the reason at `more_atoms`.
     #[tactic(auto, using(crate::proofs::Turns::tuples_none, crate::proofs::Turns::tuples_end, crate::proofs::Turns::tuples_more, crate::proofs::Turns::tuples_fail))]
     fn tuples(&mut self, arity: Arity, tuples: &mut Tuples) -> Result<(), Fault>
-        ensures value { told result (cursor self.new.tokens) (listed tuples.new) ≡ tuples_of most_text (atoms_of self.old.declared) arity (cursor self.old.tokens) (listed tuples.old) }
-        ensures kept { self.new.declared ≡ self.old.declared }
+        ensures value { told result (cursor self.new.tokens.now) (listed tuples.new) ≡ tuples_of most_text (atoms_of self.old.declared.now) arity (cursor self.old.tokens.now) (listed tuples.old) }
+        ensures kept { self.new.declared.now ≡ self.old.declared.now }
+        ensures same { SameLoans self.old self.new }
     {
         'tuples: for _turn in 0..MOST_TEXT {
             if !self.tokens.is(Mark::OpenParen) {
@@ -46,8 +49,9 @@ impl<'a> Reader<'a> {
 
     // Reads one tuple.
     fn tuple(&mut self, arity: Arity, tuples: &mut Tuples) -> Result<(), Fault>
-        ensures value { told result (cursor self.new.tokens) (listed tuples.new) ≡ tuple_of (atoms_of self.old.declared) arity (cursor self.old.tokens) (listed tuples.old) }
-        ensures kept { self.new.declared ≡ self.old.declared }
+        ensures value { told result (cursor self.new.tokens.now) (listed tuples.new) ≡ tuple_of (atoms_of self.old.declared.now) arity (cursor self.old.tokens.now) (listed tuples.old) }
+        ensures kept { self.new.declared.now ≡ self.old.declared.now }
+        ensures same { SameLoans self.old self.new }
     {
         let place = self.tokens.expect(Mark::OpenParen)?;
         let first = self.number()?;
@@ -62,19 +66,21 @@ impl<'a> Reader<'a> {
 
     // Reads the name of an atom: its number.
     fn number(&mut self) -> Result<usize, Fault>
-        ensures value { told result (cursor self.new.tokens) tt ≡ atom_number (atoms_of self.old.declared) (cursor self.old.tokens) }
+        ensures value { told result (cursor self.new.tokens.now) tt ≡ atom_number (atoms_of self.old.declared.now) (cursor self.old.tokens.now) }
         ensures small { IfOk result (λ i. i < 8) }
-        ensures kept { self.new.declared ≡ self.old.declared }
+        ensures kept { self.new.declared.now ≡ self.old.declared.now }
+        ensures same { SameLoans self.old self.new }
     {
         let placed = self.tokens.take_name()?;
-        atom_named(&self.declared, placed)
+        atom_named(self.declared, placed)
     }
 
     // Reads a second atom, if there is one.
     fn second_number(&mut self) -> Result<Option<usize>, Fault>
-        ensures value { told result (cursor self.new.tokens) tt ≡ second_number (atoms_of self.old.declared) (cursor self.old.tokens) }
+        ensures value { told result (cursor self.new.tokens.now) tt ≡ second_number (atoms_of self.old.declared.now) (cursor self.old.tokens.now) }
         ensures small { IfOk result (λ o. IfSome o (λ i. i < 8)) }
-        ensures kept { self.new.declared ≡ self.old.declared }
+        ensures kept { self.new.declared.now ≡ self.old.declared.now }
+        ensures same { SameLoans self.old self.new }
     {
         if self.tokens.name().is_none() {
             return Ok(None);

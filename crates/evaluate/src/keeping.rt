@@ -1,13 +1,14 @@
-ghost use Rattle.std.specs.Prelude.{◌≡◌, ◌*◌, ◌<◌, ◌≤◌, length};
+ghost use Rattle.std.specs.Prelude.{◌≡◌, ◌*◌, ◌<◌, ◌≤◌, length, slice_set};
 ghost use Rattle.problem.specs.Sorts.{bound_at};
 ghost use Rattle.problem.specs.Problems.{nodes_in, sorts_in};
 ghost use Rattle.meaning.specs.Tuples.{tuples as tuples_of};
 ghost use Rattle.evaluate.specs.Known.{ClosedIs, PackedIs, StatesAre};
 
 use super::evaluator::Evaluator;
-use super::kept::States;
+use super::kept::{Kept, States};
 use super::parts::{Closed, closed_expression, is_beside_variable, is_closed};
 use lasso::State;
+use rows::Row;
 use table::MOST_STATES;
 use tuples::Packed;
 
@@ -82,6 +83,13 @@ impl Evaluator<'_> {
         ensures { self.new.setting ≡ self.old.setting }
     {
         let row = self.formula(&[0; 4], node);
-        self.rows.put(node, row);
+        put_row(&mut self.rows, node, row);
     }
+}
+
+// Keeps the row of a node: apart from `keep_row`, whose proof by hand would answer for a wrong node.
+fn put_row(rows: &mut Kept<Row>, node: usize, row: Row)
+    ensures { rows.new.items ≡ slice_set rows.old.items node (Some row) }
+{
+    rows.put(node, row);
 }

@@ -4,6 +4,7 @@ ghost use Rattle.meaning.specs.Rows.{RowIs};
 ghost use Rattle.evaluate.specs.Settings.{ExpressionAt, row_at};
 
 use super::evaluator::Evaluator;
+use super::parts::is_closed;
 use lasso::State;
 use rows::Row;
 use tuples::Tuples;
@@ -14,6 +15,10 @@ impl Evaluator<'_> {
         requires { node < length (nodes_in self.now.setting.problem.now) }
         ensures { IfSome result (λ r. (e : List ℕ) → ExpressionAt self.now.setting e node state.0 r) }
     {
+        // Nothing is kept of what uses a variable: `large` is not searched for it at each binding.
+        if !is_closed(self.setting.problem, node) {
+            return None;
+        }
         match self.tables.get(node) {
             Some(states) => states.tuples(state, self.setting.atoms),
             None => self.large.get(node)?.tuples(state, self.setting.atoms),

@@ -2,7 +2,10 @@
 //! is named or by nothing, what is known of its formula.
 #![tactic(auto)]
 
+ghost use Rattle.std.specs.Prelude.{◌≡◌, true, is_err};
+
 mod by_source;
+mod counts;
 mod misfit_in_words;
 mod place_in_text;
 mod report;
@@ -14,6 +17,7 @@ mod verdict_in_words;
 
 use anyhow::anyhow;
 use by_source::tell_verdict;
+use faults::Fault;
 use problem::Problem;
 use reader::{Refusal, read};
 use report::{Accepted, Refused};
@@ -39,13 +43,18 @@ fn judge(rt: &HostRuntime, text: &[u8], problem: Problem) -> anyhow::Result<()> 
             })?;
             tell_verdict(rt, &problem)
         }
-        // Not by `refuse` of `words`, which prints one line: this is several, each with its end.
-        Err(Refusal::Fault(fault)) => {
-            rt.print(Refused { text, fault })?;
-            Err(anyhow!("refused"))
-        }
+        Err(Refusal::Fault(fault)) => refuse_text(rt, text, fault),
         Err(Refusal::Memory(_)) => want_of_memory(rt),
     }
+}
+
+// Shows where and why the text is refused, and ends the program as one that refused. Not by `refuse` of `words`, which prints one line:
+// this is several, each with its end.
+fn refuse_text(rt: &HostRuntime, text: &[u8], fault: Fault) -> anyhow::Result<()>
+    ensures { is_err result ≡ true }
+{
+    rt.print(Refused { text, fault })?;
+    Err(anyhow!("refused"))
 }
 
 // Says that the text is neither accepted nor refused.

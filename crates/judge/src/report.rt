@@ -1,7 +1,7 @@
+use super::counts::certain;
 use super::place_in_text::place_in_text;
 use super::shown::Shown;
 use faults::Fault;
-use lasso::Value;
 use names::Named;
 use problem::Problem;
 use relations::{MOST_FREE, Relation};
@@ -62,7 +62,7 @@ fn relation_in_words<W: fmt::Write>(
     let kind = relation.mutability();
     let (arity, always, free) = (
         relation.arity().number(),
-        relation.count(Value::Yes, size),
+        certain(relation, size),
         relation.free(size),
     );
     writeln!(

@@ -1,3 +1,2 @@
-pub mod Reserved
 pub mod Stream
 pub mod Moving

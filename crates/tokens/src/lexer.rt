@@ -9,7 +9,7 @@ ghost use Rattle.tokens.specs.Digits.{digits, digits_in};
 use super::rest::Rest;
 use super::token::{Sign, Spot, Token, Word};
 use faults::Fault;
-use names::{MOST_BYTES, Named};
+use names::{MOST_BYTES, Named, lookup};
 use problem::{Constant, Infix, Operator, Prefix, Turn};
 
 // The most digits of a number.
@@ -110,10 +110,11 @@ fn sign_of(b: u8) -> Option<Sign>
 }
 
 // The reserved word that some bytes spell.
+#[tactic(auto, using(std::proofs::lemmas::Option::slice_get_read), unfolding(crate::specs::Lexing::word_of))]
 fn word_of(s: &[u8]) -> Option<Word>
     ensures { result ≡ word_of s.now }
 {
-    RESERVED.iter().find(|word| word.name() == s).copied()
+    Some(RESERVED[lookup(&RESERVED, s)?])
 }
 
 // How many separators stand at the front.
@@ -131,7 +132,9 @@ fn letters_and_digits(s: &[u8]) -> usize
     ensures count { result ≡ prefix_len alnum s.now }
     ensures inside { result ≤ length s.now }
 {
-    s.iter().take_while(|b| b.is_ascii_alphanumeric()).count()
+    s.iter()
+        .take_while(|b| matches!(**b as char, 'a'..='z' | 'A'..='Z' | '0'..='9'))
+        .count()
 }
 
 // How many digits stand at the front.
@@ -139,7 +142,9 @@ fn digits_alone(s: &[u8]) -> usize
     ensures count { result ≡ prefix_len digit s.now }
     ensures inside { result ≤ length s.now }
 {
-    s.iter().take_while(|b| b.is_ascii_digit()).count()
+    s.iter()
+        .take_while(|b| matches!(**b as char, '0'..='9'))
+        .count()
 }
 
 // A length that a token may have.

@@ -1,5 +1,6 @@
-ghost use Rattle.std.specs.Prelude.{◌≡◌, ℕ, ◌+◌, ◌*◌, ◌/◌, ◌%◌, ◌<◌, ◌≤◌, ◌⊎◌, MatchOption, slice_index};
+ghost use Rattle.std.specs.Prelude.{◌≡◌, ℕ, ◌+◌, ◌*◌, ◌/◌, ◌%◌, ◌<◌, ◌≤◌, ◌⊎◌, MatchOption, slice_index, slice_set};
 ghost use Rattle.lasso.specs.declared.value.Value.TheVariants.{No};
+ghost use Rattle.meaning.specs.Tables.{table_at};
 ghost use Rattle.tuples.specs.Tabled.{table_of, Tabled};
 ghost use Rattle.tuples.specs.Packing.{number_of, four_of, value_in, packed_table};
 
@@ -39,25 +40,49 @@ impl<const N: usize> Packed<N> {
         ensures { MatchOption result ((arity ≡ 0) ⊎ (3 < arity)) (λ t. Tabled atoms.count arity (packed_table self.now) t) }
     {
         match arity {
-            1..=3 => Some(Tuples::tabled(
-                arity,
-                atoms,
-                |r| -> Value
-                    ensures { result ≡ packed_table self.entry.now r }
-                { self.value(r) },
-            )),
+            1..=3 => Some(self.set(arity, atoms)),
             _ => None,
         }
     }
 
-    // The value of a tuple; no beyond the first ones.
-    #[tactic(auto, unfolding(crate::specs::Packing::packed_table))]
-    fn value(&self, tuple: usize) -> Value
-        ensures { result ≡ packed_table self.now tuple }
+    // The same of an arity that a set has.
+    fn set(&self, arity: usize, atoms: Atoms) -> Tuples
+        requires some { 1 ≤ arity }
+        requires few { arity ≤ 3 }
+        ensures { Tabled atoms.count arity (packed_table self.now) result }
     {
-        let four = self.fours.get(tuple / 4).copied().unwrap_or(0);
-        value_in(four, tuple % 4)
+        Tuples::of_values(arity, self.values())
     }
+
+    // The values of all tuples, no beyond the first ones. Four at a time: one at a time, each by its number, takes twice as long.
+    fn values(&self) -> [Value; 512]
+        ensures { (r : ℕ) → r < 512 → table_at result r ≡ packed_table self.now r }
+    {
+        let mut values = [Value::No; 512];
+        'fours: for byte in 0..N.min(128) {
+            write_four(&mut values, byte, self.four_at(byte));
+        }
+        values
+    }
+
+    // The byte of four values.
+    fn four_at(&self, byte: usize) -> u8
+        requires { byte < N }
+        ensures { result ≡ slice_index self.now.fours byte }
+    {
+        self.fours[byte]
+    }
+}
+
+// Writes the four values of a byte.
+fn write_four(values: &mut [Value; 512], byte: usize, four: u8)
+    requires { byte < 128 }
+    ensures { values.new ≡ slice_set (slice_set (slice_set (slice_set values.old (4 * byte) (value_in four 0)) (4 * byte + 1) (value_in four 1)) (4 * byte + 2) (value_in four 2)) (4 * byte + 3) (value_in four 3) }
+{
+    values[4 * byte] = value_in(four, 0);
+    values[4 * byte + 1] = value_in(four, 1);
+    values[4 * byte + 2] = value_in(four, 2);
+    values[4 * byte + 3] = value_in(four, 3);
 }
 
 // The values of the first tuples of a set, four to a byte.

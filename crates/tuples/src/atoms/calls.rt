@@ -29,6 +29,7 @@ impl Atoms {
         ensures some { arity ≤ 3 → 1 ≤ result }
         ensures beyond { 3 < arity → result ≡ 0 }
         ensures few { result ≤ 512 }
+        ensures few_pairs { arity ≤ 2 → result ≤ 64 }
     {
         match arity {
             0 => 1,

@@ -12,7 +12,7 @@ impl Tuples {
     pub(crate) fn tabled<F: Fn(usize) -> Value>(arity: usize, atoms: Atoms, value_of: F) -> Tuples
         requires some { 1 ≤ arity }
         requires few { arity ≤ 3 }
-        requires callable { F.IsAlwaysCallable value_of }
+        requires callable { (r : ℕ) → r < tuples_of atoms.count arity → F.pre value_of r }
         ensures arity { result.arity ≡ arity }
         ensures values { (r : ℕ) → r < tuples_of atoms.count arity → F.post value_of r (table_of result r) }
     {
@@ -26,7 +26,7 @@ impl Tuples {
 // The values of a function below a count, and no from there on.
 pub(crate) fn filled<const N: usize, F: Fn(usize) -> Value>(count: usize, value_of: F) -> [Value; N]
     requires few { count ≤ N }
-    requires callable { F.IsAlwaysCallable value_of }
+    requires callable { (r : ℕ) → r < count → F.pre value_of r }
     ensures { (r : ℕ) (beyond : ValueOf) → r < count → F.post value_of r (slice_index_or result r beyond) }
 {
     // By index: in a loop over `iter_mut().enumerate()` no invariant can name the array that is written. `array::from_fn` with a test in

@@ -7,6 +7,16 @@ use super::filled::filled;
 use lasso::Value;
 
 impl Tuples {
+    // The tuples of an arity with these values.
+    pub(crate) fn of_values(arity: usize, values: [Value; 512]) -> Tuples
+        requires some { 1 ≤ arity }
+        requires few { arity ≤ 3 }
+        ensures arity { result.arity ≡ arity }
+        ensures values { result.values ≡ values }
+    {
+        Tuples { arity, values }
+    }
+
     // How many atoms a tuple has, 1 to 3.
     pub fn arity(&self) -> usize
         ensures value { result ≡ self.now.arity }
@@ -24,11 +34,14 @@ impl Tuples {
     }
 
     // The value of a tuple put together from two, the last of which is one of so many.
+    #[tactic(auto, using(crate::proofs::Beyond::same_value))]
     pub(crate) fn value_of_two(&self, first: usize, width: usize, last: usize) -> Value
+        requires some { 1 ≤ width }
+        requires few { width ≤ 512 }
         ensures { result ≡ table_of self.now (first * width + last) }
     {
-        // What saturates is beyond the last tuple, as the number itself is.
-        self.value(first.saturating_mul(width).saturating_add(last))
+        // What is cut off is beyond the last tuple, as the number itself is. Sums that saturate take twice as long in a closure.
+        self.value(first.min(512) * width + last.min(512))
     }
 
     // The values of the first tuples.

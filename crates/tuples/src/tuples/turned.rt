@@ -1,10 +1,10 @@
-ghost use Rattle.std.specs.Prelude.{◌≡◌, ◌≢◌, ◌≤◌};
+ghost use Rattle.std.specs.Prelude.{◌≡◌, ◌≢◌, ◌<◌, ◌≤◌};
 ghost use Rattle.lasso.specs.declared.value.Value.TheVariants.{No};
 ghost use Rattle.meaning.specs.Tables.{transpose_table, round_table, chains_below, turned_table};
 ghost use Rattle.meaning.specs.Laws.{ClosureAtAtoms, TransposeAtAtoms};
 ghost use Rattle.tuples.specs.Tabled.{table_of, Tabled};
 
-use super::super::atoms::Atoms;
+use super::super::atoms::{Atoms, MOST_ATOMS};
 use super::Tuples;
 use lasso::Value;
 use problem::{Constant, Turn};
@@ -43,10 +43,11 @@ impl Tuples {
 
     // The value of a pair turned round.
     fn transposed_value(&self, atoms: Atoms, pair: usize) -> Value
+        requires { pair < 64 }
         ensures { result ≡ transpose_table atoms.count (table_of self.now) pair }
     {
         let count = atoms.count();
-        self.value_of_two(pair % count, count, pair / count)
+        self.values[pair % count * count + pair / count]
     }
 
     // Chains of pairs that go through the first atoms: each round lets them go through one more.
@@ -60,18 +61,22 @@ impl Tuples {
 
     // Pairs, or two pairs that meet at an atom.
     fn round(&self, middle: usize, atoms: Atoms) -> Tuples
-        ensures { Tabled atoms.count 2 (round_table atoms.count middle (table_of self.now)) result }
+        ensures { middle < atoms.count → Tabled atoms.count 2 (round_table atoms.count middle (table_of self.now)) result }
     {
+        // The closure of a `fold` may be asked for any number; one that is no atom's would overflow.
+        let middle = middle.min(MOST_ATOMS);
         Tuples::tabled(2, atoms, |r| self.round_value(middle, atoms, r))
     }
 
     // The value of a pair, or of two that meet at an atom.
     fn round_value(&self, middle: usize, atoms: Atoms, pair: usize) -> Value
+        requires middle { middle ≤ 8 }
+        requires pair { pair < 64 }
         ensures { result ≡ round_table atoms.count middle (table_of self.now) pair }
     {
         let count = atoms.count();
-        let left = self.value_of_two(pair / count, count, middle);
-        let right = self.value_of_two(middle, count, pair % count);
-        self.value(pair).greater(left.smaller(right))
+        let left = self.values[pair / count * count + middle];
+        let right = self.values[middle * count + pair % count];
+        self.values[pair].greater(left.smaller(right))
     }
 }

@@ -13,6 +13,6 @@ invariant_of-self c =
     record {
       known = s.known;
       listed = s.listed;
-      kept = subst (Right (RowKept g.atoms.count g.window g.problem.now g.table.now)) (sym c.put.ensures)
+      kept = subst (Right (RowKept g.atoms.count g.window g.problem.now g.table.now)) (sym c.put_row.ensures)
           (put_right (RowKept g.atoms.count g.window g.problem.now g.table.now) s.rows.items c.args.node c.formula-row.result s.kept own);
     }

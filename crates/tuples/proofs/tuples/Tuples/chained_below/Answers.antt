@@ -1,4 +1,4 @@
-use Rattle.std.proofs.Common.{◌≡◌, map-id, rules, refl, sym, ap, ◌∙◌, subst, arith}
+use Rattle.std.proofs.Common.{◌≡◌, ◌<◌, map-id, rules, refl, sym, ap, ◌∙◌, subst, arith}
 use Rattle.std.specs.List.{range_with_len}
 use Rattle.std.proofs.lemmas.Iterator.{YieldsList-from_range, items_from_drains}
 use Rattle.meaning.specs.Tables.{chains_below, round_table}
@@ -19,6 +19,6 @@ returns c =
     folds_over (λ p. p.0.now ≡ c.args.atoms) (λ k (t : Tuples). Tabled n 2 (chains_below n k f) t) m d.0 _ _ d.3 e refl (c.requires.pairs, no_round n c.args.self.now.values)
     (λ p k a b q s l h met.
     let kept : q ≡ p = search rules in
-    let met_by : Tabled p.0.now.count 2 (round_table p.0.now.count k (table_of a)) b = search rules in
-    let new = subst (λ (x : Atoms). Tabled x.count 2 (round_table x.count k (table_of a)) b) s met_by in
+    let met_by : k < p.0.now.count → Tabled p.0.now.count 2 (round_table p.0.now.count k (table_of a)) b = search rules in
+    let new = subst (λ (x : Atoms). k < x.count → Tabled x.count 2 (round_table x.count k (table_of a)) b) s met_by (omega (arith, l, c.requires.inside)) in
     (ap (λ x. x.0.now) kept ∙ s, (new.0, round_more n k f a.values b.values (omega (arith, l, c.requires.inside)) h.1 new.1)))

@@ -2,4 +2,4 @@ use Rattle.std.proofs.Common.{rules}
 use Rattle.tuples.proofs.tuples.Tuples.round.Goals as goal
 
 pub returns : goal.returns
-returns c = (c.tabled.ensures.arity, λ r l. let h = c.tabled.ensures.values r l in search rules)
+returns c inside = (c.tabled.ensures.arity, λ r l. let h = c.tabled.ensures.values r l in search rules)
