@@ -2,7 +2,7 @@
 use Rattle.std.proofs.Common.{◌≡◌, ℕ, zero, suc, ◌+◌, ◌*◌, ◌<◌, ◌≤◌, Bool, true, false, cond, ◌||◌, List, [], ◌∷◌, ◌++◌, length, get_or, take, drop, replicate, sym, refl, ap, ◌∙◌, append_assoc, append-nil, add-zero, arith, length-append, take-append-drop, length-take}
 use Rattle.std.specs.List.{flat_map, count_by}
 use Rattle.std.proofs.lemmas.List.Sums.{sum_by-cons}
-use Rattle.std.proofs.lemmas.List.{take_more, get_or-drop}
+use Rattle.std.proofs.lemmas.List.{take_more, take_all, get_or-drop}
 use Rattle.std.proofs.lemmas.Bool.{eq-eqb, ne_eqb, false≢true}
 use Rattle.std.proofs.lemmas.Bool.Decides.{nat_tests}
 use Rattle.trace.specs.Tables.{Empty}
@@ -104,3 +104,6 @@ among_helds i (suc k) (true ∷ row) =
 among_helds i (suc k) (false ∷ row) =
     let e : i + suc k ≡ (i + 1) + k = omega arith in
     ap (λ p. among p (helds (i + 1) row)) e ∙ among_helds (i + 1) k row
+
+pub front_all : (row : List Bool) (p : ℕ) → length row ≤ p → front row p ≡ state_of row
+front_all row p h = ap (λ z. encode (length (helds 0 row)) ++ flat_map encode (helds 0 z)) (take_all p row h)

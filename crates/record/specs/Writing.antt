@@ -21,3 +21,7 @@ front row p = encode (length (helds 0 row)) ++ flat_map encode (helds 0 (take p 
 pub record SoFar (xs old buf : List ℕ) (at : ℕ) : Type 0 where
   pub bytes : buf ≡ over xs old
   pub end : at ≡ length xs
+
+-- what stood there goes on from xs to ys
+abbrev pub Goes : List ℕ → List ℕ → ℕ → List ℕ → List ℕ → ℕ → Type 0
+Goes xs buf at ys buf' at' = (old : List ℕ) → SoFar xs old buf at → SoFar ys old buf' at'

@@ -5,7 +5,7 @@ ghost use Rattle.numbers.specs.Numbers.{encode, over};
 ghost use Rattle.numbers.specs.Lists.{list_bytes};
 ghost use Rattle.record.specs.Records.{helds, said, header_of, record_of};
 ghost use Rattle.record.specs.Reading.{Wrote, NoRoom};
-ghost use Rattle.record.specs.Writing.{place_bytes};
+ghost use Rattle.record.specs.Writing.{state_of, front, Goes, place_bytes};
 
 use faults::Fault;
 use numbers::{number_len, write_number};
@@ -58,17 +58,39 @@ fn put_header(trace: &Trace, buffer: &mut [u8]) -> usize
 }
 
 // Writes one state, into what is left of the buffer: how many places it holds, and these.
-#[tactic(auto, using(crate::proofs::Written::place_then, crate::proofs::Written::place_room))]
 fn put_state(row: &[bool; MOST_PLACES], buffer: &mut [u8]) -> usize
     requires { length (list_bytes (helds 0 row.now)) ≤ length buffer.old }
     ensures len { result ≡ length (list_bytes (helds 0 row.now)) }
     ensures after { buffer.new ≡ over (list_bytes (helds 0 row.now)) buffer.old }
 {
-    let mut at = put_number(count(row) as u16, buffer);
-    for (place, held) in row.iter().enumerate() {
-        at += put_place(place, *held, &mut buffer[at..]);
+    let at = put_number(count(row) as u16, buffer);
+    put_places(row, at, buffer)
+}
+
+// Writes the held places of a state behind their count. By index: the proof finds the loop's invariant then, and the order of the
+// places fails in the code where it is another.
+fn put_places(row: &[bool; MOST_PLACES], start: usize, buffer: &mut [u8]) -> usize
+    requires room { length (state_of row.now) ≤ length buffer.old }
+    requires start { start ≡ length (front row.now 0) }
+    ensures { Goes (front row.now 0) buffer.old start (front row.now most_places) buffer.new result }
+{
+    let mut at = start;
+    for place in 0..MOST_PLACES {
+        at = put_next(row, place, at, buffer);
     }
     at
+}
+
+// Writes a place if it is held, behind those before it: the index of the byte after what is written so far.
+#[tactic(auto, using(crate::proofs::Written::place_then, crate::proofs::Written::place_room))]
+fn put_next(row: &[bool; MOST_PLACES], place: usize, at: usize, buffer: &mut [u8]) -> usize
+    requires room { length (state_of row.now) ≤ length buffer.old }
+    requires place { place < most_places }
+    requires at { at ≡ length (front row.now place) }
+    ensures end { result ≡ length (front row.now (place + 1)) }
+    ensures goes { Goes (front row.now place) buffer.old at (front row.now (place + 1)) buffer.new result }
+{
+    at + put_place(place, row[place], &mut buffer[at..])
 }
 
 // Writes a place if it is held.
