@@ -87,7 +87,7 @@ impl Evaluator<'_> {
     }
 }
 
-// Keeps the row of a node: apart from `keep_row`, whose proof by hand would answer for a wrong node.
+// Keeps the row of a node. Apart from `keep_row`, where a proof by hand and not the code would refuse a wrong node.
 fn put_row(rows: &mut Kept<Row>, node: usize, row: Row)
     ensures { rows.new.items ≡ slice_set rows.old.items node (Some row) }
 {
