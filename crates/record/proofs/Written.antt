@@ -10,7 +10,7 @@ use Rattle.numbers.specs.Lists.{list_bytes}
 use Rattle.trace.specs.declared.trace.Trace.{Trace}
 use Rattle.record.specs.Records.{helds, rows_of, header, said, header_of, record_of}
 use Rattle.record.specs.Writing.{place_bytes, state_of, front, SoFar}
-use Rattle.record.proofs.Rows.{joined_append, state_bound, length_encode, front_more, front_le}
+use Rattle.record.proofs.Rows.{joined_append, state_bound, length_encode, front_more}
 
 past : (xs ys old : List ℕ) → drop (length ys) (drop (length xs) old) ≡ drop (length (xs ++ ys)) old
 past xs ys old = drop-drop (length ys) (length xs) old ∙ ap (λ n. drop n old) (sym (length-append xs ys))
@@ -46,10 +46,6 @@ left_room : (old xs ys buf all : List ℕ) (at k : ℕ) → SoFar xs old buf at 
 left_room old xs ys buf all at k s e h l =
     let b : length buf ≡ length xs + (length old - length xs) = ap length s.bytes ∙ length-append xs (drop (length xs) old) ∙ ap (λ m. length xs + m) (length-drop (length xs) old) in
     simp (length-take, length-drop) (omega (arith, b, s.end, length-append xs ys))
-
-pub place_room : (row : List Bool) (p : ℕ) (old buf : List ℕ) (at k : ℕ) → p < length row → SoFar (front row p) old buf at → k ≡ length buf - at → length (state_of row) ≤ length old
-    → length (place_bytes p (get_or row p false)) ≤ length (take k (drop at buf))
-place_room row p old buf at k h s e l = left_room old (front row p) (place_bytes p (get_or row p false)) buf (state_of row) at k s e (omega (arith, ap length (front_more row p h), front_le row (p + 1))) l
 
 -- the bytes of the first s states
 abbrev pub part : List (List Bool) → ℕ → List ℕ

@@ -82,7 +82,6 @@ fn put_places(row: &[bool; MOST_PLACES], start: usize, buffer: &mut [u8]) -> usi
 }
 
 // Writes a place if it is held, behind those before it: the index of the byte after what is written so far.
-#[tactic(auto, using(crate::proofs::Written::place_then, crate::proofs::Written::place_room))]
 fn put_next(row: &[bool; MOST_PLACES], place: usize, at: usize, buffer: &mut [u8]) -> usize
     requires room { length (state_of row.now) ≤ length buffer.old }
     requires place { place < most_places }

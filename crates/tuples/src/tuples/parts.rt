@@ -40,7 +40,7 @@ impl Tuples {
         requires few { width ≤ 512 }
         ensures { result ≡ table_of self.now (first * width + last) }
     {
-        // What is cut off is beyond the last tuple, as the number itself is. Sums that saturate take twice as long in a closure.
+        // What is cut off is beyond the last tuple, as the number itself is. Sums that saturate are slower in joins.
         self.value(first.min(512) * width + last.min(512))
     }
 
