@@ -67,8 +67,7 @@ fn put_state(row: &[bool; MOST_PLACES], buffer: &mut [u8]) -> usize
     put_places(row, at, buffer)
 }
 
-// Writes the held places of a state behind their count. By index: the proof finds the loop's invariant then, and the order of the
-// places fails in the code where it is another.
+// Writes the held places of a state behind their count. By index, so that another order of the places fails in the code.
 fn put_places(row: &[bool; MOST_PLACES], start: usize, buffer: &mut [u8]) -> usize
     requires room { length (state_of row.now) ≤ length buffer.old }
     requires start { start ≡ length (front row.now 0) }

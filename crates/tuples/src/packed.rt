@@ -54,7 +54,7 @@ impl<const N: usize> Packed<N> {
         Tuples::of_values(arity, self.values())
     }
 
-    // The values of all tuples, no beyond the first ones. Four at a time: one at a time, each by its number, takes twice as long.
+    // The values of all tuples, no beyond the first ones. Four at a time: one at a time, each by its number, is slower.
     fn values(&self) -> [Value; 512]
         ensures { (r : ℕ) → r < 512 → table_at result r ≡ packed_table self.now r }
     {
